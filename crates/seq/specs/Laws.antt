@@ -1,0 +1,89 @@
+-- Laws on tests and lists, each named after what it says.
+use Prim.Native.Nat.{ℕ, zero, suc, _-_, _≤_}
+use mathlib.Core.Path.{_≡_, refl, sym, ap, _∙_}
+use mathlib.Core.Bool.{Bool, true, false, cond, not, _&&_, _||_, true≢false, false≢true}
+use mathlib.Core.List.{List, [], _∷_, _++_, map}
+use native.Mathlib.Omega.{arith}
+use native.Mathlib.Nat.{not-suc-le-zero, le-of-suc-le-suc}
+use lib.ListN.{length, getD, take, drop, length-append, length-replicate}
+use lib.Seq.{take-at, drop-at}
+use lib.Dec.{eqb}
+use borrow.Author.Tests.{eqb-true}
+use Rattle.seq.specs.Words.{all, every, listed, from, zeros, padded, zeroFrom}
+
+-- both parts of a true &&, both of a false ||
+pub and-left : (a b : Bool) → (a && b) ≡ true → a ≡ true
+and-left true b e = refl
+and-left false b e = e
+
+pub and-right : (a b : Bool) → (a && b) ≡ true → b ≡ true
+and-right true b e = e
+and-right false b e = absurd (false≢true e)
+
+pub and-both : {a b : Bool} → a ≡ true → b ≡ true → (a && b) ≡ true
+and-both {a = true} e h = h
+and-both {a = false} e h = e
+
+pub and-false : (b : Bool) → (b && false) ≡ false
+and-false true = refl
+and-false false = refl
+
+pub or-left : (a b : Bool) → (a || b) ≡ false → a ≡ false
+or-left true b e = absurd (true≢false e)
+or-left false b e = refl
+
+pub or-right : (a b : Bool) → (a || b) ≡ false → b ≡ false
+or-right true b e = absurd (true≢false e)
+or-right false b e = e
+
+pub not-true : (a : Bool) → not a ≡ true → a ≡ false
+not-true true e = sym e
+not-true false e = refl
+
+pub not-false : (a : Bool) → not a ≡ false → a ≡ true
+not-false true e = refl
+not-false false e = sym e
+
+-- what holds of both choices holds of the chosen one
+pub cond-has : {A : Type 0} (P : A → Type 0) (t : Bool) {a b : A} → (t ≡ true → P a) → (t ≡ false → P b) → P (cond t a b)
+cond-has P true h k = h refl
+cond-has P false h k = k refl
+
+-- each of several tests that all hold
+pub every-at : (n : ℕ) (l : List Bool) → every l ≡ true → getD l n true ≡ true
+unfolding every
+every-at n [] e = refl
+every-at zero (b ∷ bs) e = and-left b (every bs) e
+every-at (suc n) (b ∷ bs) e = every-at n bs (and-right b (every bs) e)
+
+-- what every listed number has, a listed one has
+listed-step : (p : ℕ → Bool) (n x : ℕ) (t r : Bool) → eqb n x ≡ t → p x ≡ true → (t || r) ≡ true → (r ≡ true → p n ≡ true) → p n ≡ true
+listed-step p n x true r et a e ih = ap p (eqb-true n x et) ∙ a
+listed-step p n x false r et a e ih = ih e
+
+pub listed-all : (p : ℕ → Bool) (n : ℕ) (l : List ℕ) → all p l ≡ true → listed l n ≡ true → p n ≡ true
+listed-all p n [] a e = absurd (false≢true e)
+listed-all p n (x ∷ xs) a e =
+    listed-step p n x (eqb n x) (listed xs n) refl (and-left (p x) (all p xs) a) e (listed-all p n xs (and-right (p x) (all p xs) a))
+
+-- consecutive numbers
+pub length-from : (a n : ℕ) → length (from a n) ≡ n
+length-from a zero = refl
+length-from a (suc n) = ap suc (length-from (suc a) n)
+
+-- lists padded with 00
+pub zeros-all : (n : ℕ) → all (λ b. eqb b 0) (zeros n) ≡ true
+zeros-all zero = refl
+zeros-all (suc n) = zeros-all n
+
+pub padded-take : (n : ℕ) (r : List ℕ) → take (length r) (padded n r) ≡ r
+unfolding padded
+padded-take n r = take-at r (zeros (n - length r)) (length r) refl
+
+pub padded-zero : (n : ℕ) (r : List ℕ) → zeroFrom (length r) (padded n r) ≡ true
+unfolding padded
+padded-zero n r = rw (drop-at r (zeros (n - length r)) (length r) refl) (zeros-all (n - length r))
+
+pub length-padded : (n : ℕ) (r : List ℕ) → length r ≤ n → length (padded n r) ≡ n
+unfolding padded
+length-padded n r h = simp (length-append, length-replicate) (omega arith)
