@@ -1,1 +1,57 @@
-// draft
+// Document 01, "Calls", "Commands", "Reset and sense": what a printer holds, and what it is told to do.
+use copies::Copies;
+use form::Forms;
+use form::Motion;
+use line::Slots;
+
+// What Start fixes: the form length in 24ths of an inch, and the pitch of each module, 0 if it is not fitted.
+pub struct Fixed {
+    pub length: u16,
+    pub pitches: [u8; 4],
+}
+
+// The form and the page in work: the current line, whether it is written on, whether a completed page waits, and whether its
+// Release is to reset. Lines are only left forwards, so no other line's mark is ever asked for.
+pub struct Sheet {
+    pub line: u8,
+    pub written: bool,
+    pub waiting: bool,
+    pub due: bool,
+}
+
+// All that a printer holds but its sense.
+pub struct State {
+    pub fixed: Fixed,
+    pub blocked: bool,
+    pub forms: Forms,
+    pub slots: Slots,
+    pub copies: Copies,
+    pub sheet: Sheet,
+}
+
+// A command byte, decoded. Write is write and space or skip, Move the immediate form of both.
+pub enum Command {
+    Write(Motion),
+    Move(Motion),
+    Controls(Control),
+    Loads(Load),
+    Unlisted,
+}
+
+pub enum Control {
+    NoOp,
+    SenseIo,
+    Initialize,
+    Clear,
+    Block,
+    Allow,
+    Select(u8),
+}
+
+pub enum Load {
+    Fcb,
+    TranslateTable,
+    CopyModification,
+    OverlaySequence,
+    CopyNumber,
+}

@@ -1,1 +1,23 @@
-// draft
+// Document 01, "Form and forms control" and "Movement".
+
+// Forms control: the FCB's bytes, one for each line, and how many there are; 00 after them.
+pub struct Forms {
+    pub fcb: [u8; 144],
+    pub count: u8,
+}
+
+// What a command asks of the form: to space so many lines, or to skip to a channel.
+pub enum Motion {
+    Space(u8),
+    Skip(u8),
+}
+
+// What a movement does: the lines entered or looked at, the pages completed, the line taken, and what it reports.
+pub struct Moved {
+    pub lines: u8,
+    pub pages: u8,
+    pub line: u8,
+    pub nine: bool,
+    pub twelve: bool,
+    pub missed: bool,
+}

@@ -2,7 +2,6 @@
 use Prim.Native.Nat.{ℕ, _/_, _%_}
 use mathlib.Core.Bool.{Bool, true, false}
 use mathlib.Core.Option.{Option, none, some}
-use mathlib.Core.List.{List, [], _∷_}
 use lib.Dec.{eqb}
 use Rattle.numbers.specs.declared.Sense.{Sense}
 use Rattle.numbers.specs.declared.Answer.{Answer}
@@ -84,19 +83,11 @@ isAccepted x = eqb (numberOf x) 0
 abbrev pub only : Refusal → ℕ → Answer
 only x status = record { refusal = x; status = status; ready = false; lines = 0; copy = 0; mark = 0 }
 
--- A test of an order, with its refusal; the first that holds gives the number.
-unfoldable pub when : Bool → Refusal → Option Refusal
-when true x = some x
-when false x = none
-
+-- A load check is given by what its load's check finds.
 unfoldable pub checked : Checked → Option Refusal
 checked Sound = none
 checked (Faulty c) = some (LoadCheck c)
 
-unfoldable pub firstOf : List (Option Refusal) → Refusal
-firstOf [] = Accepted
-firstOf (t ∷ ts) = elim t [ none ↦ firstOf ts | some x ↦ x ]
-
-abbrev pub isSound : Checked → Bool
+unfoldable pub isSound : Checked → Bool
 isSound Sound = true
 isSound (Faulty c) = false

@@ -2,6 +2,7 @@
 use Prim.Native.Nat.{ℕ, zero, suc, _-_, _≤_}
 use mathlib.Core.Path.{_≡_, refl, sym, ap, _∙_}
 use mathlib.Core.Bool.{Bool, true, false, cond, not, _&&_, _||_, true≢false, false≢true}
+use mathlib.Core.Option.{Option, none, some}
 use mathlib.Core.List.{List, [], _∷_, _++_, map}
 use native.Mathlib.Omega.{arith}
 use native.Mathlib.Nat.{not-suc-le-zero, le-of-suc-le-suc}
@@ -9,7 +10,7 @@ use lib.ListN.{length, getD, take, drop, length-append, length-replicate}
 use lib.Seq.{take-at, drop-at}
 use lib.Dec.{eqb}
 use borrow.Author.Tests.{eqb-true}
-use Rattle.seq.specs.Words.{all, every, listed, from, zeros, padded, zeroFrom}
+use Rattle.seq.specs.Words.{all, when, firstOr, every, listed, from, zeros, padded, zeroFrom}
 
 -- both parts of a true &&, both of a false ||
 pub and-left : (a b : Bool) → (a && b) ≡ true → a ≡ true
@@ -65,6 +66,31 @@ pub listed-all : (p : ℕ → Bool) (n : ℕ) (l : List ℕ) → all p l ≡ tru
 listed-all p n [] a e = absurd (false≢true e)
 listed-all p n (x ∷ xs) a e =
     listed-step p n x (eqb n x) (listed xs n) refl (and-left (p x) (all p xs) a) e (listed-all p n xs (and-right (p x) (all p xs) a))
+
+-- x is what the first test that holds gives, or d where none does
+module _ {A : Type 0} where
+  pub data First (d : A) : List (Option A) → A → Type 0 where
+    clear : First d [] d
+    here : {x : A} {ts : List (Option A)} → First d (some x ∷ ts) x
+    later : {x : A} {ts : List (Option A)} → First d ts x → First d (none ∷ ts) x
+
+  pub first-is : (d : A) (ts : List (Option A)) → First d ts (firstOr d ts)
+  unfolding firstOr
+  first-is d [] = clear
+  first-is d (none ∷ ts) = later (first-is d ts)
+  first-is d (some x ∷ ts) = here
+
+  pub first-only : {d : A} {ts : List (Option A)} {x : A} → First d ts x → firstOr d ts ≡ x
+  unfolding firstOr
+  first-only clear = refl
+  first-only here = refl
+  first-only (later f) = first-only f
+
+  -- where none of an order held, its first did not, nor did those after it
+  pub passed : {d : A} {x : A} (b : Bool) (ts : List (Option A)) → (x ≡ d → ⊥) → firstOr d (when b x ∷ ts) ≡ d → (b ≡ false) × (firstOr d ts ≡ d)
+  unfolding firstOr when
+  passed true ts n e = absurd (n e)
+  passed false ts n e = (refl, e)
 
 -- consecutive numbers
 pub length-from : (a n : ℕ) → length (from a n) ≡ n

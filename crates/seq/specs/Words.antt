@@ -1,6 +1,7 @@
 -- Words on tests and lists that every section of document 01 is written in.
 use Prim.Native.Nat.{ℕ, zero, suc, _+_, _-_}
 use mathlib.Core.Bool.{Bool, true, false, _&&_, _||_}
+use mathlib.Core.Option.{Option, none, some}
 use mathlib.Core.List.{List, [], _∷_, _++_}
 use lib.ListN.{length, drop, replicate}
 use lib.Dec.{eqb}
@@ -22,6 +23,20 @@ module _ {ℓ} {A : Type ℓ} where
   abbrev pub lastOr : A → List A → A
   lastOr d [] = d
   lastOr d (x ∷ xs) = lastOr x xs
+
+  -- lists one after the other
+  unfoldable pub joined : List (List A) → List A
+  joined [] = []
+  joined (l ∷ ls) = l ++ joined ls
+
+  -- "Checked in this order, first cause reported": what a test gives if it holds, and the first of several in order, d if none holds
+  unfoldable pub when : Bool → A → Option A
+  when true x = some x
+  when false x = none
+
+  unfoldable pub firstOr : A → List (Option A) → A
+  firstOr d [] = d
+  firstOr d (t ∷ ts) = elim t [ none ↦ firstOr d ts | some x ↦ x ]
 
 -- all of several tests; not an abbrev, so that a law can name each by its place
 unfoldable pub every : List Bool → Bool

@@ -1,0 +1,151 @@
+-- Document 01, "Calls" and "Numbers": the calls but Start, their refusals in order, and one step.
+use Prim.Native.Nat.{ℕ, _+_, _*_}
+use mathlib.Core.Bool.{Bool, true, false, cond, not, _&&_, _||_}
+use mathlib.Core.Option.{Option}
+use mathlib.Core.List.{List, [], _∷_, _++_}
+use lib.ListN.{length, drop}
+use lib.Dec.{eqb, ltb}
+use Rattle.seq.specs.Words.{when, firstOr, empty}
+use Rattle.numbers.specs.declared.Sense.{Sense}
+use Rattle.numbers.specs.declared.Answer.{Answer}
+use Rattle.numbers.specs.declared.Checked.{Checked}
+use Rattle.numbers.specs.declared.Checked.the-variants.{Sound}
+use Rattle.numbers.specs.declared.Refusal.{Refusal}
+use Rattle.numbers.specs.declared.Refusal.the-variants.{Accepted, NotListed, BadRecord, PageWaiting, PageStarted, NoPage, BadIndex, TooShort, BadStore, TwoPages}
+use Rattle.numbers.specs.Numbers.{keep, senseAfter, isAccepted, only, checked}
+use Rattle.form.specs.declared.Moved.{Moved}
+use Rattle.form.specs.Movement.{toTop}
+use Rattle.line.specs.Line.{lineWidth}
+use Rattle.copies.specs.Copies.{copyCount, copyNumber, copyMark}
+use Rattle.copies.specs.Legends.{legendSize, composed}
+use Rattle.calls.specs.declared.State.{State}
+use Rattle.calls.specs.declared.Command.{Command}
+use Rattle.calls.specs.declared.Command.the-variants.{Write, Move, Controls, Loads, Unlisted}
+use Rattle.calls.specs.Core.{Core, World, withState, withPage, withSheet, P, started}
+use Rattle.calls.specs.Commands.{decode, controlTraits, traitsOf, isUnlisted, isLoad}
+use Rattle.calls.specs.Contents.{coreOk}
+use Rattle.calls.specs.Reset.{blankSheet, noCells, reset, senseSize}
+use Rattle.calls.specs.Effects.{Effect, nothing, refused, moveOf, standing, loadCheck, doCommand}
+
+-- Command: a byte, a record, a reply buffer. Compose: a copy index from 1, and an output buffer. Release.
+pub data Call : Type 0 where
+  command : ℕ → List ℕ → List ℕ → Call
+  compose : ℕ → List ℕ → Call
+  release : Call
+
+-- Number 2: "write record empty or over 204; load record over 8,192". "Control commands ignore their record", and immediate ones.
+abbrev pub badRecord : Command → List ℕ → Bool
+badRecord (Write m) r = empty r || ltb lineWidth (length r)
+badRecord (Move m) r = false
+badRecord (Controls c) r = false
+badRecord (Loads l) r = ltb legendSize (length r)
+badRecord Unlisted r = false
+
+-- Number 3: what a load's check finds.
+unfoldable pub checkOf : ℕ → Command → List ℕ → Checked
+checkOf len (Write m) r = Sound
+checkOf len (Move m) r = Sound
+checkOf len (Controls c) r = Sound
+checkOf len (Loads l) r = loadCheck len l r
+checkOf len Unlisted r = Sound
+
+-- Number 11: the movement that a command makes, with the pages that it completes.
+unfoldable pub movement : Core → Command → Moved
+movement k (Write m) = moveOf (k .state) m
+movement k (Move m) = moveOf (k .state) m
+movement k (Controls c) = cond (controlTraits c .completes && started (k .state .sheet)) toTop (standing k)
+movement k (Loads l) = standing k
+movement k Unlisted = standing k
+
+-- "Command 9, 1, 4, 2, 5, 3, 8, 11."
+abbrev pub commandTests : Core → Command → List ℕ → List ℕ → List (Option Refusal)
+commandTests k c r reply =
+    when (not (coreOk k)) BadStore
+    ∷ when (isUnlisted c) NotListed
+    ∷ when (k .state .sheet .waiting && not (traitsOf c .quiet)) PageWaiting
+    ∷ when (badRecord c r) BadRecord
+    ∷ when (isLoad c && started (k .state .sheet)) PageStarted
+    ∷ checked (checkOf (k .state .fixed .length) c r)
+    ∷ when (traitsOf c .replies && ltb (length reply) senseSize) TooShort
+    ∷ when (ltb 1 (movement k c .pages)) TwoPages
+    ∷ []
+
+-- "Compose 9, 6, 7, 8."
+abbrev pub composeTests : Core → ℕ → List ℕ → List (Option Refusal)
+composeTests k n out =
+    when (not (coreOk k)) BadStore
+    ∷ when (not (k .state .sheet .waiting)) NoPage
+    ∷ when (eqb n 0 || ltb (copyCount (k .state .copies)) n) BadIndex
+    ∷ when (ltb (length out) (lineWidth * P (k .state))) TooShort
+    ∷ []
+
+-- "Release 9, 6."
+abbrev pub releaseTests : Core → List (Option Refusal)
+releaseTests k = when (not (coreOk k)) BadStore ∷ when (not (k .state .sheet .waiting)) NoPage ∷ []
+
+abbrev pub testsOf : Core → Call → List (Option Refusal)
+testsOf k (command b r reply) = commandTests k (decode b) r reply
+testsOf k (compose n out) = composeTests k n out
+testsOf k release = releaseTests k
+
+-- "In a fixed order": the first test that holds gives the number.
+unfoldable pub refusalOf : Core → Call → Refusal
+refusalOf k c = firstOr Accepted (testsOf k c)
+
+-- "P lines of 204 cells into the output"; an accepted Compose gives copy number and overlay mark.
+unfoldable pub composedCopy : Core → ℕ → List ℕ
+composedCopy k n = composed (k .stores .page) (k .stores .legends) (P (k .state)) (copyNumber (k .state .copies) n)
+
+unfoldable pub doCompose : Core → ℕ → Effect
+doCompose k n =
+    record {
+      answer = record { refusal = Accepted; status = 0; ready = false; lines = 0; copy = copyNumber (k .state .copies) n; mark = copyMark (k .state .copies) n };
+      core = k;
+      sense = keep;
+      front = λ s. composedCopy k n;
+    }
+
+-- "A completed page waits until Release, which sets all page bytes to 00"; a reset that is due is done.
+unfoldable pub emptied : Core → Core
+emptied k = withPage (withState k (withSheet (k .state) (blankSheet (k .state .sheet .line)))) noCells
+
+unfoldable pub released : Core → Core
+released k = cond (k .state .sheet .due) (reset (emptied k)) (emptied k)
+
+unfoldable pub doRelease : Core → Effect
+doRelease k = record { answer = only Accepted 0; core = released k; sense = keep; front = nothing }
+
+unfoldable pub perform : Core → Call → Effect
+perform k (command b r reply) = doCommand k (decode b) r
+perform k (compose n out) = doCompose k n
+perform k release = doRelease k
+
+-- The byte count that a load check shows.
+abbrev pub sizeOf : Call → ℕ
+sizeOf (command b r reply) = length r
+sizeOf (compose n out) = 0
+sizeOf release = 0
+
+-- What a call does, by the core alone.
+unfoldable pub effect : Core → Call → Effect
+effect k c = let x = refusalOf k c in cond (isAccepted x) (perform k c) (refused k (sizeOf c) x)
+
+-- The buffer that a call is lent to write, and it as the call returns: "bytes after that keep their values".
+abbrev pub lent : Call → List ℕ
+lent (command b r reply) = reply
+lent (compose n out) = out
+lent release = []
+
+abbrev pub over : List ℕ → List ℕ → List ℕ
+over xs buffer = xs ++ drop (length xs) buffer
+
+-- One call.
+pub record Outcome : Type 0 where
+  pub answer : Answer
+  pub buffer : List ℕ
+  pub world : World
+
+unfoldable pub step : World → Call → Outcome
+step w c =
+    let e = effect (w .core) c in
+    record { answer = e .answer; buffer = over (e .front (w .sense)) (lent c); world = record { core = e .core; sense = senseAfter (w .sense) (e .sense) } }

@@ -1,0 +1,62 @@
+-- Document 01, "Numbers": contents no printer has, clause by clause. Any sense is allowed, and so are all cell, table and legend text bytes.
+use Prim.Native.Nat.{ℕ}
+use mathlib.Core.Bool.{Bool, not, _&&_, _||_}
+use mathlib.Core.List.{List, [], _∷_}
+use lib.Dec.{leb}
+use Rattle.seq.specs.Words.{every, listed}
+use Rattle.numbers.specs.Numbers.{isSound}
+use Rattle.form.specs.Form.{formLengths, pitchesOk, fcbCheck, fcbNow, formsInRange}
+use Rattle.line.specs.Line.{slotsInRange}
+use Rattle.copies.specs.Copies.{sequenceCheck, sequenceNow, copiesInRange}
+use Rattle.copies.specs.Legends.{legendsOk}
+use Rattle.calls.specs.declared.Fixed.{Fixed}
+use Rattle.calls.specs.declared.Sheet.{Sheet}
+use Rattle.calls.specs.declared.State.{State}
+use Rattle.calls.specs.Core.{Core, sizesOk, P}
+
+-- "A field outside its range (the current line is 1 to P)."
+unfoldable pub fixedOk : Fixed → Bool
+fixedOk f = every (listed formLengths (f .length) ∷ pitchesOk (f .pitches) ∷ [])
+
+unfoldable pub lineOk : ℕ → Sheet → Bool
+lineOk p s = every (leb 1 (s .line) ∷ leb (s .line) p ∷ [])
+
+unfoldable pub rangesOk : State → Bool
+rangesOk s =
+    every
+    (fixedOk (s .fixed)
+    ∷ formsInRange (s .forms)
+    ∷ slotsInRange (s .slots)
+    ∷ copiesInRange (s .copies)
+    ∷ lineOk (P s) (s .sheet)
+    ∷ [])
+
+-- "A reset due with no page waiting."
+unfoldable pub dueOk : Sheet → Bool
+dueOk s = not (s .due) || s .waiting
+
+-- "A line marked written while a page waits."
+unfoldable pub markOk : Sheet → Bool
+markOk s = not (s .written && s .waiting)
+
+-- "Forms control or an overlay sequence that its load would refuse."
+abbrev pub formsOk : State → Bool
+formsOk s = isSound (fcbCheck (s .fixed .length) (fcbNow (s .forms)))
+
+abbrev pub sequenceOk : State → Bool
+sequenceOk s = isSound (sequenceCheck (sequenceNow (s .copies)))
+
+-- Number 9's tests: "lent store of wrong size", then the clauses in their order.
+abbrev pub clauses : Core → List Bool
+clauses k =
+    sizesOk (k .stores)
+    ∷ rangesOk (k .state)
+    ∷ dueOk (k .state .sheet)
+    ∷ markOk (k .state .sheet)
+    ∷ formsOk (k .state)
+    ∷ sequenceOk (k .state)
+    ∷ legendsOk (k .stores .legends)
+    ∷ []
+
+unfoldable pub coreOk : Core → Bool
+coreOk k = every (clauses k)

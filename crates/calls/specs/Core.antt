@@ -1,0 +1,73 @@
+-- Document 01, "Calls": what a call is handed. The structs of src/ are the state; the large parts are lent stores.
+use Prim.Native.Nat.{ℕ}
+use mathlib.Core.Bool.{Bool, not, _||_}
+use mathlib.Core.List.{List, [], _∷_}
+use lib.ListN.{length}
+use lib.Dec.{eqb}
+use Rattle.seq.specs.Words.{every}
+use Rattle.numbers.specs.declared.Sense.{Sense}
+use Rattle.form.specs.declared.Forms.{Forms}
+use Rattle.form.specs.Form.{fcbNow, printable}
+use Rattle.line.specs.declared.Slots.{Slots}
+use Rattle.line.specs.Line.{pageSize, tableSize}
+use Rattle.copies.specs.declared.Copies.{Copies}
+use Rattle.copies.specs.Legends.{legendSize}
+use Rattle.calls.specs.declared.Sheet.{Sheet}
+use Rattle.calls.specs.declared.State.{State}
+
+-- "Large parts are lent."
+pub record Stores : Type 0 where
+  pub page : List ℕ
+  pub legends : List ℕ
+  pub tables : List ℕ
+
+unfoldable pub sizesOk : Stores → Bool
+sizesOk m = every (eqb (length (m .page)) pageSize ∷ eqb (length (m .legends)) legendSize ∷ eqb (length (m .tables)) tableSize ∷ [])
+
+-- All but the sense; and all. No call but Sense reads the sense, so that a call's effect is a function of the core.
+pub record Core : Type 0 where
+  pub state : State
+  pub stores : Stores
+
+pub record World : Type 0 where
+  pub core : Core
+  pub sense : Sense
+
+-- Parts replaced.
+abbrev pub withState : Core → State → Core
+withState k s = record { state = s; stores = k .stores }
+
+abbrev pub withPage : Core → List ℕ → Core
+withPage k p = record { state = k .state; stores = record { page = p; legends = k .stores .legends; tables = k .stores .tables } }
+
+abbrev pub withLegends : Core → List ℕ → Core
+withLegends k l = record { state = k .state; stores = record { page = k .stores .page; legends = l; tables = k .stores .tables } }
+
+abbrev pub withTables : Core → List ℕ → Core
+withTables k t = record { state = k .state; stores = record { page = k .stores .page; legends = k .stores .legends; tables = t } }
+
+abbrev pub withBlocked : State → Bool → State
+withBlocked s b = record { fixed = s .fixed; blocked = b; forms = s .forms; slots = s .slots; copies = s .copies; sheet = s .sheet }
+
+abbrev pub withForms : State → Forms → State
+withForms s f = record { fixed = s .fixed; blocked = s .blocked; forms = f; slots = s .slots; copies = s .copies; sheet = s .sheet }
+
+abbrev pub withSlots : State → Slots → State
+withSlots s t = record { fixed = s .fixed; blocked = s .blocked; forms = s .forms; slots = t; copies = s .copies; sheet = s .sheet }
+
+abbrev pub withCopies : State → Copies → State
+withCopies s c = record { fixed = s .fixed; blocked = s .blocked; forms = s .forms; slots = s .slots; copies = c; sheet = s .sheet }
+
+abbrev pub withSheet : State → Sheet → State
+withSheet s x = record { fixed = s .fixed; blocked = s .blocked; forms = s .forms; slots = s .slots; copies = s .copies; sheet = x }
+
+-- The bytes of the printable lines, and P.
+unfoldable pub linesNow : State → List ℕ
+linesNow s = printable (s .fixed .length) (fcbNow (s .forms))
+
+abbrev pub P : State → ℕ
+P s = length (linesNow s)
+
+-- "A page is started if the form isn't at line 1 or something is written on it": at line 1 that can only be line 1 itself.
+unfoldable pub started : Sheet → Bool
+started s = not (eqb (s .line) 1) || s .written

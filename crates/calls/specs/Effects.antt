@@ -1,0 +1,175 @@
+-- What each accepted command does: document 01, "Movement", "Writing a line", "Copies and legends", "Reset and sense" put together.
+use Prim.Native.Nat.{ℕ, _+_}
+use mathlib.Core.Bool.{Bool, true, false, cond, not, _&&_, _||_}
+use mathlib.Core.List.{List, [], _∷_}
+use lib.ListN.{length, getD, take, set}
+use lib.Dec.{eqb}
+use Rattle.seq.specs.Words.{bit}
+use Rattle.numbers.specs.declared.Sense.{Sense}
+use Rattle.numbers.specs.declared.Answer.{Answer}
+use Rattle.numbers.specs.declared.Checked.{Checked}
+use Rattle.numbers.specs.declared.Refusal.{Refusal}
+use Rattle.numbers.specs.declared.Refusal.the-variants.{Accepted, NotListed}
+use Rattle.numbers.specs.Numbers.{SenseStep, keep, anew, sense3, noSense, rowOf, only}
+use Rattle.form.specs.declared.Motion.{Motion}
+use Rattle.form.specs.declared.Moved.{Moved}
+use Rattle.form.specs.Form.{fcbCheck, formsOf}
+use Rattle.form.specs.Movement.{moved, still, toTop}
+use Rattle.line.specs.declared.Slots.{Slots}
+use Rattle.line.specs.declared.Causes.{Causes}
+use Rattle.line.specs.Line.{slotSize, putSlot, serving, translated, lineCells, lineAt, pageWritten, noCauses, lineCauses, orUnmatched, causeByte}
+use Rattle.copies.specs.Copies.{tableCheck, sequenceCheck, numberCheck, withSequence, withReference}
+use Rattle.copies.specs.Legends.{legendCheck, storedLegends, legendText}
+use Rattle.calls.specs.declared.Sheet.{Sheet}
+use Rattle.calls.specs.declared.State.{State}
+use Rattle.calls.specs.declared.Load.{Load}
+use Rattle.calls.specs.declared.Load.the-variants.{Fcb, TranslateTable, CopyModification, OverlaySequence, CopyNumber}
+use Rattle.calls.specs.declared.Control.{Control}
+use Rattle.calls.specs.declared.Control.the-variants.{NoOp, SenseIo, Initialize, Clear, Block, Allow, Select}
+use Rattle.calls.specs.declared.Command.{Command}
+use Rattle.calls.specs.declared.Command.the-variants.{Write, Move, Controls, Loads, Unlisted}
+use Rattle.calls.specs.Core.{Core, withState, withPage, withLegends, withTables, withBlocked, withForms, withSlots, withCopies, withSheet, linesNow, started}
+use Rattle.calls.specs.Reset.{reset, senseBytes}
+
+-- What a call answers and does: to the core, to the sense, and to the front of its lent buffer (Sense's reply, Compose's output), whose
+-- later bytes keep their values.
+pub record Effect : Type 0 where
+  pub answer : Answer
+  pub core : Core
+  pub sense : SenseStep
+  pub front : Sense → List ℕ
+
+abbrev pub nothing : Sense → List ℕ
+nothing s = []
+
+-- "Otherwise nothing but the sense shown changes; no output byte is written." n is the record's byte count.
+unfoldable pub refused : Core → ℕ → Refusal → Effect
+refused k n x = record { answer = only x (rowOf n x .status); core = k; sense = rowOf n x .sense; front = nothing }
+
+-- An accepted command that sets the sense anew: from the core it leaves, its causes and its movement. Status 0C, plus 02 unit check
+-- (a cause left, channel 9), plus 01 unit exception (channel 12). Sense byte 0 gets 08 with any cause left, and 01 for channel 9.
+unfoldable pub done : Core → Causes → Moved → Effect
+done k c m =
+    let b1 = causeByte (k .state .blocked) c in
+    let check = not (eqb b1 0) in
+    record {
+      answer =
+          record {
+            refusal = Accepted;
+            status = rowOf 0 Accepted .status + bit (check || m .nine) 0x02 + bit (m .twelve) 0x01;
+            ready = not (eqb (m .pages) 0);
+            lines = m .lines;
+            copy = 0;
+            mark = 0;
+          };
+      core = k;
+      sense = anew (sense3 (bit check 0x08 + bit (m .nine) 0x01) b1 0);
+      front = nothing;
+    }
+
+-- The sheet after a movement: a completed page waits, and the mark goes with the line that is left.
+unfoldable pub movedSheet : Bool → Sheet → Moved → Sheet
+movedSheet due s m =
+    cond (eqb (m .pages) 0)
+    (record { line = m .line; written = s .written && eqb (m .lines) 0; waiting = s .waiting; due = s .due })
+    (record { line = m .line; written = false; waiting = true; due = due })
+
+abbrev pub movedCore : Bool → Core → Moved → Core
+movedCore due k m = withState k (withSheet (k .state) (movedSheet due (k .state .sheet) m))
+
+unfoldable pub moveOf : State → Motion → Moved
+moveOf s m = moved (linesNow s) (s .sheet .line) m
+
+unfoldable pub doMove : Core → Motion → Effect
+doMove k m = let mv = moveOf (k .state) m in done (movedCore false k mv) (orUnmatched noCauses (mv .missed)) mv
+
+-- "Writing comes before movement": the record's cells on the current line, which is then marked ("a write of blanks counts as written").
+unfoldable pub marked : Sheet → Sheet
+marked s = record { line = s .line; written = true; waiting = s .waiting; due = s .due }
+
+unfoldable pub written : Core → List ℕ → Core
+written k r =
+    let s = k .state .sheet in
+    let cells = lineCells (k .state .fixed .pitches) (serving (k .state .slots) (k .stores .tables)) r in
+    withPage (withState k (withSheet (k .state) (marked s))) (pageWritten (s .written) (s .line) cells (k .stores .page))
+
+unfoldable pub writeCauses : Core → List ℕ → Causes
+writeCauses k r =
+    let s = k .state .sheet in
+    lineCauses (k .state .fixed .pitches) (k .state .slots) (k .stores .tables) (s .written) (lineAt (s .line) (k .stores .page)) r
+
+unfoldable pub doWrite : Core → Motion → List ℕ → Effect
+doWrite k m r =
+    let mv = moveOf (k .state) m in
+    done (movedCore false (written k r) mv) (orUnmatched (writeCauses k r) (mv .missed)) mv
+
+-- The five loads: what each one's check finds, what it leaves, and its causes.
+unfoldable pub loadCheck : ℕ → Load → List ℕ → Checked
+loadCheck len Fcb r = fcbCheck len r
+loadCheck len TranslateTable r = tableCheck r
+loadCheck len CopyModification r = legendCheck r
+loadCheck len OverlaySequence r = sequenceCheck r
+loadCheck len CopyNumber r = numberCheck r
+
+-- "An accepted load puts the form at line 1."
+unfoldable pub atLine1 : Sheet → Sheet
+atLine1 s = record { line = 1; written = s .written; waiting = s .waiting; due = s .due }
+
+unfoldable pub slotLoaded : Slots → Slots
+slotLoaded s = record { loaded = set (s .loaded) (s .selected) true; selected = s .selected }
+
+unfoldable pub slotSelected : Slots → ℕ → Slots
+slotSelected s n = record { loaded = s .loaded; selected = n }
+
+-- "The first 256 go in the selected slot"; "a load replaces all legends".
+unfoldable pub loaded : Core → Load → List ℕ → Core
+loaded k Fcb r = withState k (withSheet (withForms (k .state) (formsOf r)) (atLine1 (k .state .sheet)))
+loaded k TranslateTable r =
+    withTables (withState k (withSlots (k .state) (slotLoaded (k .state .slots))))
+    (putSlot (k .state .slots .selected) (take slotSize r) (k .stores .tables))
+loaded k CopyModification r =
+    withLegends k (storedLegends (translated (k .state .fixed .pitches) (serving (k .state .slots) (k .stores .tables))) r)
+loaded k OverlaySequence r = withState k (withCopies (k .state) (withSequence (k .state .copies) r))
+loaded k CopyNumber r = withState k (withCopies (k .state) (withReference (k .state .copies) (getD r 0 0)))
+
+-- "Text is translated at load like a line, with the same checks (house)": as the first write on a line. The other loads raise nothing.
+unfoldable pub loadCauses : Core → Load → List ℕ → Causes
+loadCauses k Fcb r = noCauses
+loadCauses k TranslateTable r = noCauses
+loadCauses k CopyModification r = lineCauses (k .state .fixed .pitches) (k .state .slots) (k .stores .tables) false [] (legendText r)
+loadCauses k OverlaySequence r = noCauses
+loadCauses k CopyNumber r = noCauses
+
+-- no movement
+abbrev pub standing : Core → Moved
+standing k = still (k .state .sheet .line)
+
+unfoldable pub doLoad : Core → Load → List ℕ → Effect
+doLoad k l r = done (loaded k l r) (loadCauses k l r) (standing k)
+
+-- "Clear completes a started page and puts the form at line 1; else it does nothing." "Initialize on a page not started resets at once.
+-- On a started page it completes it as Clear does, and the reset is done by its Release."
+unfoldable pub completing : Core → Bool → Core → Effect
+completing k due unstarted =
+    cond (started (k .state .sheet)) (done (movedCore due k toTop) noCauses toTop) (done unstarted noCauses (standing k))
+
+-- No-Op and Sense do not set the sense anew; Sense "replies 24 bytes and then clears".
+abbrev pub quietly : Core → SenseStep → (Sense → List ℕ) → Effect
+quietly k s f = record { answer = only Accepted (rowOf 0 Accepted .status); core = k; sense = s; front = f }
+
+unfoldable pub doControl : Core → Control → Effect
+doControl k NoOp = quietly k keep nothing
+doControl k SenseIo = quietly k (anew noSense) (senseBytes (k .state))
+doControl k Initialize = completing k true (reset k)
+doControl k Clear = completing k false k
+doControl k Block = done (withState k (withBlocked (k .state) true)) noCauses (standing k)
+doControl k Allow = done (withState k (withBlocked (k .state) false)) noCauses (standing k)
+doControl k (Select n) = done (withState k (withSlots (k .state) (slotSelected (k .state .slots) n))) noCauses (standing k)
+
+-- A byte not among the commands is refused before it comes here, with this same effect.
+unfoldable pub doCommand : Core → Command → List ℕ → Effect
+doCommand k (Write m) r = doWrite k m r
+doCommand k (Move m) r = doMove k m
+doCommand k (Controls c) r = doControl k c
+doCommand k (Loads l) r = doLoad k l r
+doCommand k Unlisted r = refused k (length r) NotListed

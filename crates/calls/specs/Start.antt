@@ -1,0 +1,52 @@
+-- Document 01, "Calls" and "Numbers": Start, and what a refused Start hands back.
+use Prim.Native.Nat.{ℕ}
+use mathlib.Core.Bool.{Bool, true, false, cond, not, _&&_}
+use mathlib.Core.Option.{Option}
+use mathlib.Core.List.{List, [], _∷_}
+use lib.ListN.{replicate}
+use Rattle.seq.specs.Words.{when, firstOr, listed, zeros}
+use Rattle.numbers.specs.declared.Refusal.{Refusal}
+use Rattle.numbers.specs.declared.Refusal.the-variants.{Accepted, BadStore, BadForm}
+use Rattle.numbers.specs.Numbers.{noSense, isAccepted, only}
+use Rattle.form.specs.Form.{formLengths, pitchesOk, fcbSize}
+use Rattle.copies.specs.Copies.{pairSize}
+use Rattle.calls.specs.declared.Fixed.{Fixed}
+use Rattle.calls.specs.declared.State.{State}
+use Rattle.calls.specs.Core.{Stores, sizesOk, World}
+use Rattle.calls.specs.Reset.{fresh}
+use Rattle.calls.specs.Calls.{Outcome}
+
+-- "Start: a form length and four module pitches", as the numbers that were passed. "Order: Start 9 (sizes only), 10."
+abbrev pub startTests : ℕ → List ℕ → Stores → List (Option Refusal)
+startTests len ps m =
+    when (not (sizesOk m)) BadStore
+    ∷ when (not (listed formLengths len && pitchesOk ps)) BadForm
+    ∷ []
+
+unfoldable pub startRefusal : ℕ → List ℕ → Stores → Refusal
+startRefusal len ps m = firstOr Accepted (startTests len ps m)
+
+-- "Start sets the page and legends to zeros and table slots as after Initialize", "clears the sense too", "checks allowed".
+unfoldable pub startWorld : ℕ → List ℕ → World
+startWorld len ps = record { core = fresh (record { length = len; pitches = ps }) false; sense = noSense }
+
+-- "A refused Start hands back a state of all zeros .. and writes no other lent store."
+unfoldable pub noState : State
+noState =
+    record {
+      fixed = record { length = 0; pitches = zeros 4 };
+      blocked = false;
+      forms = record { fcb = zeros fcbSize; count = 0 };
+      slots = record { loaded = replicate 4 false; selected = 0 };
+      copies = record { pairs = zeros pairSize; count = 0; reference = 0 };
+      sheet = record { line = 0; written = false; waiting = false; due = false };
+    }
+
+unfoldable pub noPrinter : Stores → World
+noPrinter m = record { core = record { state = noState; stores = m }; sense = noSense }
+
+-- Status 00, accepted or not.
+unfoldable pub startOutcome : ℕ → List ℕ → Stores → Outcome
+startOutcome len ps m =
+    let x = startRefusal len ps m in
+    record { answer = only x 0; buffer = []; world = cond (isAccepted x) (startWorld len ps) (noPrinter m) }

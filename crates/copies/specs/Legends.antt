@@ -1,0 +1,125 @@
+-- Document 01, "Copies and legends": copy modification, and the composed copy.
+use Prim.Native.Nat.{ℕ, zero, suc, _+_, _*_, _-_, _/_, _%_}
+use mathlib.Core.Bool.{Bool, true, false, cond, not, _&&_, _||_}
+use mathlib.Core.Option.{Option}
+use mathlib.Core.List.{List, [], _∷_, _++_, map}
+use lib.ListN.{length, getD, take, drop}
+use lib.Dec.{eqb, leb, ltb}
+use Rattle.seq.specs.Words.{any, empty, joined, when, firstOr, every, zeros, padded, zeroFrom}
+use Rattle.numbers.specs.declared.Cause.the-variants.{SegmentEnds, SegmentFields}
+use Rattle.numbers.specs.declared.Checked.{Checked}
+use Rattle.numbers.specs.declared.Checked.the-variants.{Sound, Faulty}
+use Rattle.numbers.specs.Numbers.{isSound}
+use Rattle.line.specs.Line.{lineWidth}
+
+abbrev pub legendSize : ℕ
+legendSize = 8192
+
+-- "Segments of six bytes and text: first copy, copies, first line, lines, first position, positions; text of exactly that many
+-- positions, used on each line."
+pub record Segment : Type 0 where
+  pub firstCopy : ℕ
+  pub copies : ℕ
+  pub firstLine : ℕ
+  pub lines : ℕ
+  pub firstPosition : ℕ
+  pub positions : ℕ
+  pub text : List ℕ
+
+abbrev pub headSize : ℕ
+headSize = 6
+
+unfoldable pub segmentOf : List ℕ → Segment
+segmentOf s =
+    record {
+      firstCopy = getD s 0 0;
+      copies = getD s 1 0;
+      firstLine = getD s 2 0;
+      lines = getD s 3 0;
+      firstPosition = getD s 4 0;
+      positions = getD s 5 0;
+      text = take (getD s 5 0) (drop headSize s);
+    }
+
+-- How many bytes the segment has that begins s.
+abbrev pub segmentLength : List ℕ → ℕ
+segmentLength s = headSize + getD s 5 0
+
+-- "A zero among the six, or first position plus positions outside 2 to 205."
+unfoldable pub badHead : List ℕ → Bool
+badHead s = any (λ b. eqb b 0) (take headSize s) || not (leb 2 (getD s 4 0 + getD s 5 0) && leb (getD s 4 0 + getD s 5 0) 205)
+
+-- An end inside the six bytes, what the six say, an end inside the text: "six complete bytes are judged before their text".
+abbrev pub segmentTests : List ℕ → List (Option Checked)
+segmentTests s =
+    when (ltb (length s) headSize) (Faulty SegmentEnds)
+    ∷ when (badHead s) (Faulty SegmentFields)
+    ∷ when (ltb (length s) (segmentLength s)) (Faulty SegmentEnds)
+    ∷ []
+
+-- Bytes cut into segments in order, the last one with what is left; what follows a faulty segment is never judged. The cut ends
+-- before a first byte at which `ends` holds. n bounds the number of segments.
+unfoldable pub cut : (ℕ → Bool) → ℕ → List ℕ → List (List ℕ)
+cut ends zero s = []
+cut ends (suc n) [] = []
+cut ends (suc n) (b ∷ bs) =
+    let size = segmentLength (b ∷ bs) in
+    let rest = cut ends n (drop size (b ∷ bs)) in
+    cond (ends b) [] (take size (b ∷ bs) ∷ rest)
+
+-- "Segments are taken in record order."
+unfoldable pub segments : List ℕ → List (List ℕ)
+segments r = cut (λ b. false) (length r) r
+
+-- "The first fault is reported. An end inside a segment, or an empty record, is byte 1 80."
+unfoldable pub legendCheck : List ℕ → Checked
+legendCheck r = firstOr Sound (when (empty r) (Faulty SegmentEnds) ∷ joined (map segmentTests (segments r)))
+
+-- "Text is translated at load like a line (house)": f is the translation. "The legend bytes after the last segment are 00."
+abbrev pub retext : (List ℕ → List ℕ) → List ℕ → List ℕ
+retext f s = take headSize s ++ f (drop headSize s)
+
+unfoldable pub storedLegends : (List ℕ → List ℕ) → List ℕ → List ℕ
+storedLegends f r = padded legendSize (joined (map (retext f) (segments r)))
+
+unfoldable pub legendText : List ℕ → List ℕ
+legendText r = joined (map (drop headSize) (segments r))
+
+-- "Stored legends end where a segment would begin with 00, or at byte 8,192."
+unfoldable pub storedSegments : List ℕ → List (List ℕ)
+storedSegments l = cut (λ b. eqb b 0) (length l) l
+
+-- Not "legends that are not empty and that their load would refuse, or a byte other than 00 after them".
+unfoldable pub legendsOk : List ℕ → Bool
+legendsOk l =
+    let r = joined (storedSegments l) in
+    every ((empty r || isSound (legendCheck r)) ∷ zeroFrom (length r) l ∷ [])
+
+unfoldable pub noLegends : List ℕ
+noLegends = zeros legendSize
+
+-- x is one of the n numbers from a on
+abbrev pub among : ℕ → ℕ → ℕ → Bool
+among a n x = leb a x && ltb x (a + n)
+
+unfoldable pub covers : Segment → ℕ → ℕ → ℕ → Bool
+covers g number line position =
+    among (g .firstCopy) (g .copies) number
+    && among (g .firstLine) (g .lines) line
+    && among (g .firstPosition) (g .positions) position
+
+-- "A cell is the last segment's text that covers its copy number, line and position (house), blanks included; otherwise the page's
+-- cell", here c.
+unfoldable pub shown : List Segment → ℕ → ℕ → ℕ → ℕ → ℕ
+shown [] number line position c = c
+shown (g ∷ gs) number line position c =
+    shown gs number line position (cond (covers g number line position) (getD (g .text) (position - g .firstPosition) 0) c)
+
+-- The cells of a copy; i counts the page's cells from 0.
+unfoldable pub copyFrom : List Segment → ℕ → ℕ → List ℕ → List ℕ
+copyFrom gs number i [] = []
+copyFrom gs number i (c ∷ cs) = shown gs number (i / lineWidth + 1) (i % lineWidth + 1) c ∷ copyFrom gs number (suc i) cs
+
+-- "Composed copy: P lines of 204 cells", for the copy with this number.
+unfoldable pub composed : List ℕ → List ℕ → ℕ → ℕ → List ℕ
+composed page legends P number = copyFrom (map segmentOf (storedSegments legends)) number 0 (take (lineWidth * P) page)

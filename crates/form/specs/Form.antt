@@ -1,0 +1,118 @@
+-- Document 01, "Form and forms control".
+use Prim.Native.Nat.{ℕ, _+_, _-_, _/_, _%_}
+use mathlib.Core.Bool.{Bool, true, false, cond, not, _&&_, _||_}
+use mathlib.Core.List.{List, [], _∷_, _++_, map}
+use lib.ListN.{length, getD, take}
+use lib.Dec.{eqb, leb, ltb}
+use Rattle.seq.specs.Words.{any, all, when, firstOr, every, listed, total, zeros, padded, zeroFrom}
+use Rattle.numbers.specs.declared.Cause.the-variants.{FcbChannel, FcbSpacing, FcbSum, FcbEdge}
+use Rattle.numbers.specs.declared.Checked.{Checked}
+use Rattle.numbers.specs.declared.Checked.the-variants.{Sound, Faulty}
+use Rattle.form.specs.declared.Forms.{Forms}
+
+-- Lengths in 24ths of an inch: common-use, then ISO.
+unfoldable pub formLengths : List ℕ
+formLengths = 84 ∷ 132 ∷ 168 ∷ 204 ∷ 264 ∷ 72 ∷ 96 ∷ 144 ∷ 192 ∷ 240 ∷ 288 ∷ []
+
+-- Pitches: 0 absent, 10, 12, 15.
+unfoldable pub pitchesListed : List ℕ
+pitchesListed = 0 ∷ 10 ∷ 12 ∷ 15 ∷ []
+
+-- Each module's pitch is listed, and module 0 is fitted.
+unfoldable pub pitchesOk : List ℕ → Bool
+pitchesOk ps = all (listed pitchesListed) ps && not (eqb (getD ps 0 0) 0)
+
+-- One FCB byte per line: its upper half is the spacing, its lower half the channel, 0 for none.
+abbrev pub upper : ℕ → ℕ
+upper b = b / 16
+
+abbrev pub channel : ℕ → ℕ
+channel b = b % 16
+
+-- Upper half 0, 1, 3: 4, 3, 2 units of a 24th inch a line; 0 for another.
+unfoldable pub unitsOf : ℕ → ℕ
+unitsOf u = cond (eqb u 0) 4 (cond (eqb u 1) 3 (cond (eqb u 3) 2 0))
+
+abbrev pub units : ℕ → ℕ
+units b = unitsOf (upper b)
+
+abbrev pub halfInch : ℕ
+halfInch = 12
+
+-- The runs of equal spacing, taken from change to change, each as its units. The run that is open has the upper half u and n units so far.
+unfoldable pub runsFrom : ℕ → ℕ → List ℕ → List ℕ
+runsFrom u n [] = n ∷ []
+runsFrom u n (b ∷ bs) =
+    let same = runsFrom u (n + units b) bs in
+    let change = n ∷ runsFrom (upper b) (units b) bs in
+    cond (eqb (upper b) u) same change
+
+unfoldable pub runs : List ℕ → List ℕ
+runs [] = []
+runs (b ∷ bs) = runsFrom (upper b) (units b) bs
+
+unfoldable pub unitsTotal : List ℕ → ℕ
+unitsTotal f = total (map units f)
+
+-- Whether a line lies between the first and the last half inch of a form of `len` units; `off` is where it starts. That is
+-- enough, since after check 2 no line crosses the border of a half inch (`no-straddle`, proofs/Border).
+abbrev pub between : ℕ → ℕ → Bool
+between len off = leb halfInch off && ltb off (len - halfInch)
+
+-- The bytes of the printable lines, the first line `off` units down; P is their number.
+unfoldable pub printableFrom : ℕ → ℕ → List ℕ → List ℕ
+printableFrom len off [] = []
+printableFrom len off (b ∷ bs) = let rest = printableFrom len (off + units b) bs in cond (between len off) (b ∷ rest) rest
+
+unfoldable pub printable : ℕ → List ℕ → List ℕ
+printable len f = printableFrom len 0 f
+
+-- The bytes of the lines in the first and last half inch.
+unfoldable pub edgeFrom : ℕ → ℕ → List ℕ → List ℕ
+edgeFrom len off [] = []
+edgeFrom len off (b ∷ bs) = let rest = edgeFrom len (off + units b) bs in cond (between len off) rest (b ∷ rest)
+
+-- The four checks, one for each number of the paper's list.
+abbrev pub badChannel : List ℕ → Bool
+badChannel f = any (λ b. ltb 12 (channel b)) f
+
+abbrev pub otherUpper : List ℕ → Bool
+otherUpper f = any (λ b. eqb (units b) 0) f
+
+-- (house)
+abbrev pub oddRun : List ℕ → Bool
+oddRun f = any (λ n. not (eqb (n % halfInch) 0)) (runs f)
+
+abbrev pub edgeChannel : ℕ → List ℕ → Bool
+edgeChannel len f = any (λ b. not (eqb (channel b) 0)) (edgeFrom len 0 f)
+
+unfoldable pub fcbCheck : ℕ → List ℕ → Checked
+fcbCheck len f =
+    firstOr Sound
+    (when (badChannel f) (Faulty FcbChannel)
+    ∷ when (otherUpper f || oddRun f) (Faulty FcbSpacing)
+    ∷ when (not (eqb (unitsTotal f) len)) (Faulty FcbSum)
+    ∷ when (edgeChannel len f) (Faulty FcbEdge)
+    ∷ [])
+
+-- The channel of a printable line, numbered from 1; ls are the bytes of the printable lines.
+unfoldable pub channelAt : List ℕ → ℕ → ℕ
+channelAt ls line = channel (getD ls (line - 1) 0)
+
+-- The starting FCB is 6 lines per inch with channel 1 at line 1: three lines lie in the first half inch.
+unfoldable pub startFcb : ℕ → List ℕ
+startFcb len = zeros 3 ++ 1 ∷ zeros (len / 4 - 4)
+
+-- Forms control as the printer keeps it: a record of at most 144 bytes, and 00 after it.
+abbrev pub fcbSize : ℕ
+fcbSize = 144
+
+unfoldable pub formsOf : List ℕ → Forms
+formsOf r = record { fcb = padded fcbSize r; count = length r }
+
+abbrev pub fcbNow : Forms → List ℕ
+fcbNow f = take (f .count) (f .fcb)
+
+-- a count within the array, and 00 after it
+unfoldable pub formsInRange : Forms → Bool
+formsInRange f = every (leb (f .count) fcbSize ∷ zeroFrom (f .count) (f .fcb) ∷ [])
