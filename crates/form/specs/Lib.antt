@@ -1,2 +1,5 @@
 pub mod Form
+pub mod FormLaws
+pub mod Border
 pub mod Movement
+pub mod MovementLaws

@@ -1,0 +1,137 @@
+-- Of forms control that its load takes: at most 144 bytes, and from 1 to 132 printable lines. The starting FCB is such.
+use Prim.Native.Nat.{ℕ, _+_, _*_, _-_, _≤_, _<_, max}
+use mathlib.Core.Path.{_≡_, refl, sym, ap, _∙_}
+use mathlib.Core.Bool.{Bool, true, false, cond, not, _&&_, _||_, true≢false, false≢true, and-true}
+use mathlib.Core.List.{List, [], _∷_, map}
+use native.Mathlib.Omega.{arith}
+use lib.ListN.{length}
+use lib.Dec.{eqb, leb, ltb, lit≤}
+use borrow.Author.Tests.{ltb-true, lt-ltb, leb-true, leb-false, eqb-true}
+use Rattle.seq.specs.Words.{any, all, every, when, firstOr, listed, total}
+use Rattle.seq.specs.Laws.{and-left, and-right, or-left, or-right, not-false, listed-all, passed}
+use Rattle.numbers.specs.declared.Checked.the-variants.{Sound}
+use Rattle.numbers.specs.Numbers.{isSound}
+use Rattle.numbers.specs.Laws.{faulty, sound-is}
+use Rattle.form.specs.Form.{formLengths, upper, channel, unitsOf, units, runs, runsFrom, unitsTotal, between, printableFrom, printable, edgeFrom, badChannel, otherUpper, oddRun, fcbCheck, channelAt, startFcb}
+
+-- What the four checks found.
+pub record Passes (len : ℕ) (f : List ℕ) : Type 0 where
+  pub channels : badChannel f ≡ false
+  pub spacings : otherUpper f ≡ false
+  pub whole : oddRun f ≡ false
+  pub sum : unitsTotal f ≡ len
+
+pub passes : (len : ℕ) (f : List ℕ) → fcbCheck len f ≡ Sound → Passes len f
+unfolding fcbCheck
+passes len f e =
+    let h₁ = passed _ _ faulty e in
+    let h₂ = passed _ _ faulty (h₁ .1) in
+    let h₃ = passed _ _ faulty (h₂ .1) in
+    record {
+      channels = h₁ .0;
+      spacings = or-left (otherUpper f) (oddRun f) (h₂ .0);
+      whole = or-right (otherUpper f) (oddRun f) (h₂ .0);
+      sum = eqb-true _ _ (not-false _ (h₃ .0));
+    }
+
+-- A line is 2 to 4 units.
+pick-units : (a b c : Bool) → eqb (cond a 4 (cond b 3 (cond c 2 0))) 0 ≡ false → 2 ≤ cond a 4 (cond b 3 (cond c 2 0))
+pick-units true b c e = lit≤ tt
+pick-units false true c e = lit≤ tt
+pick-units false false true e = lit≤ tt
+pick-units false false false e = absurd (true≢false e)
+
+pub two-units : (u : ℕ) → eqb (unitsOf u) 0 ≡ false → 2 ≤ unitsOf u
+unfolding unitsOf
+two-units u e = pick-units (eqb u 0) (eqb u 1) (eqb u 3) e
+
+pick-four : (a b c : Bool) → cond a 4 (cond b 3 (cond c 2 0)) ≤ 4
+pick-four true b c = lit≤ tt
+pick-four false true c = lit≤ tt
+pick-four false false true = lit≤ tt
+pick-four false false false = lit≤ tt
+
+four-units : (u : ℕ) → unitsOf u ≤ 4
+unfolding unitsOf
+four-units u = pick-four (eqb u 0) (eqb u 1) (eqb u 3)
+
+-- the first byte's spacing is one of the three, and so are the others'
+pub first-upper : (b : ℕ) (bs : List ℕ) → otherUpper (b ∷ bs) ≡ false → eqb (units b) 0 ≡ false
+first-upper b bs h = or-left (eqb (units b) 0) (otherUpper bs) h
+
+pub rest-upper : (b : ℕ) (bs : List ℕ) → otherUpper (b ∷ bs) ≡ false → otherUpper bs ≡ false
+rest-upper b bs h = or-right (eqb (units b) 0) (otherUpper bs) h
+
+-- Forms are 72 to 288 units long.
+short-form : (n : ℕ) → listed formLengths n ≡ true → n ≤ 288
+unfolding formLengths
+short-form n e = leb-true n 288 (listed-all (λ m. leb m 288) n formLengths refl e)
+
+long-form : (n : ℕ) → listed formLengths n ≡ true → 72 ≤ n
+unfolding formLengths
+long-form n e = leb-true 72 n (listed-all (λ m. leb 72 m) n formLengths refl e)
+
+two-each : (f : List ℕ) → otherUpper f ≡ false → 2 * length f ≤ unitsTotal f
+unfolding unitsTotal
+two-each [] h = omega arith
+two-each (b ∷ bs) h =
+    let ih : 2 * length bs ≤ total (map units bs) = two-each bs (rest-upper b bs h) in
+    omega (arith, two-units (upper b) (first-upper b bs h))
+
+-- each printable line starts at least two units after the one before it
+few-step : (len off u b : ℕ) (rest : List ℕ) (t : Bool) → between len off ≡ t → 2 ≤ u
+    → 2 * length rest ≤ (len - 11) - max (off + u) 12 → 2 * length (cond t (b ∷ rest) rest) ≤ (len - 11) - max off 12
+few-step len off u b rest true e two ih =
+    let lo : 12 ≤ off = leb-true 12 off (and-left (leb 12 off) (ltb off (len - 12)) e) in
+    let hi : off < len - 12 = ltb-true off (len - 12) (and-right (leb 12 off) (ltb off (len - 12)) e) in
+    omega arith
+few-step len off u b rest false e two ih = omega arith
+
+few-from : (len off : ℕ) (f : List ℕ) → otherUpper f ≡ false → 2 * length (printableFrom len off f) ≤ (len - 11) - max off 12
+unfolding printableFrom
+few-from len off [] h = omega arith
+few-from len off (b ∷ bs) h =
+    few-step len off (units b) b (printableFrom len (off + units b) bs) (between len off) refl
+    (two-units (upper b) (first-upper b bs h)) (few-from len (off + units b) bs (rest-upper b bs h))
+
+-- a form goes on past its first half inch
+above : (len off : ℕ) → off < len - 12 → between len off ≡ false → off < 12
+above len off h e = leb-false 12 off (sym (and-true (leb 12 off)) ∙ rw (lt-ltb off (len - 12) h) at e)
+
+some-step : (b : ℕ) (rest : List ℕ) (t : Bool) → (t ≡ false → 1 ≤ length rest) → 1 ≤ length (cond t (b ∷ rest) rest)
+some-step b rest true h = omega arith
+some-step b rest false h = h refl
+
+some-from : (len off : ℕ) (f : List ℕ) → 72 ≤ len → off < len - 12 → off + unitsTotal f ≡ len → 1 ≤ length (printableFrom len off f)
+unfolding unitsTotal printableFrom
+some-from len off [] h l e = absurd (omega arith)
+some-from len off (b ∷ bs) h l e =
+    some-step b (printableFrom len (off + units b) bs) (between len off)
+    (λ t. some-from len (off + units b) bs h (omega (arith, above len off l t, four-units (upper b))) (omega arith))
+
+module _ (len : ℕ) (f : List ℕ) (l : listed formLengths len ≡ true) (e : fcbCheck len f ≡ Sound) where
+  pub fcb-fits : length f ≤ 144
+  fcb-fits = omega (arith, short-form len l, two-each f (passes len f e .spacings), passes len f e .sum)
+
+  pub few-lines : length (printable len f) ≤ 132
+  unfolding printable
+  few-lines = omega (arith, short-form len l, few-from len 0 f (passes len f e .spacings))
+
+  pub some-line : 1 ≤ length (printable len f)
+  unfolding printable
+  some-line = some-from len 0 f (long-form len l) (omega (arith, long-form len l)) (omega (arith, passes len f e .sum))
+
+-- The starting FCB of every form: its load takes it, its channel 1 is at line 1, and P is a sixth of an inch less an inch.
+abbrev starts : ℕ → Bool
+starts n = isSound (fcbCheck n (startFcb n)) && eqb (channelAt (printable n (startFcb n)) 1) 1
+
+pub starting-fcb : all starts formLengths ≡ true
+unfolding formLengths fcbCheck runs runsFrom unitsTotal unitsOf edgeFrom startFcb firstOr when isSound channelAt printable printableFrom
+starting-fcb = refl
+
+pub starting-P : map (λ n. length (printable n (startFcb n))) formLengths ≡ 15 ∷ 27 ∷ 36 ∷ 45 ∷ 60 ∷ 12 ∷ 18 ∷ 30 ∷ 42 ∷ 54 ∷ 66 ∷ []
+unfolding formLengths printable printableFrom startFcb unitsOf
+starting-P = refl
+
+pub start-sound : (len : ℕ) → listed formLengths len ≡ true → fcbCheck len (startFcb len) ≡ Sound
+start-sound len l = sound-is _ (and-left _ (eqb (channelAt (printable len (startFcb len)) 1) 1) (listed-all starts len formLengths starting-fcb l))
