@@ -8,7 +8,7 @@ use lib.ListN.{length, length-append, length-map}
 use lib.Dec.{ltb, lit≤}
 use borrow.Author.Tests.{ltb-true}
 use Rattle.seq.specs.Words.{any, lastOr, from}
-use Rattle.seq.specs.Laws.{or-left, or-right, not-true, length-from, cond-has}
+use Rattle.seq.proofs.Laws.{or-left, or-right, not-true, length-from, cond-has}
 use Rattle.form.specs.declared.Motion.{Motion}
 use Rattle.form.specs.declared.Motion.the-variants.{Space, Skip}
 use Rattle.form.specs.declared.Moved.{Moved}

@@ -8,10 +8,10 @@ use lib.ListN.{length}
 use lib.Dec.{eqb, leb, ltb, lit≤}
 use borrow.Author.Tests.{ltb-true, lt-ltb, leb-true, leb-false, eqb-true}
 use Rattle.seq.specs.Words.{any, all, every, when, firstOr, listed, total}
-use Rattle.seq.specs.Laws.{and-left, and-right, or-left, or-right, not-false, listed-all, passed}
+use Rattle.seq.proofs.Laws.{and-left, and-right, or-left, or-right, not-false, listed-all, passed}
 use Rattle.numbers.specs.declared.Checked.the-variants.{Sound}
 use Rattle.numbers.specs.Numbers.{isSound}
-use Rattle.numbers.specs.Laws.{faulty, sound-is}
+use Rattle.numbers.proofs.Laws.{faulty, sound-is}
 use Rattle.form.specs.Form.{formLengths, upper, channel, unitsOf, units, runs, runsFrom, unitsTotal, between, printableFrom, printable, edgeFrom, badChannel, otherUpper, oddRun, fcbCheck, channelAt, startFcb}
 
 -- What the four checks found.

@@ -7,10 +7,10 @@ use native.Mathlib.Omega.{arith}
 use lib.Dec.{eqb, leb}
 use borrow.Author.Tests.{eqb-true, le-leb}
 use Rattle.seq.specs.Words.{any}
-use Rattle.seq.specs.Laws.{or-left, or-right, not-false, and-both}
+use Rattle.seq.proofs.Laws.{or-left, or-right, not-false, and-both}
 use Rattle.numbers.specs.declared.Checked.the-variants.{Sound}
 use Rattle.form.specs.Form.{upper, unitsOf, units, halfInch, runsFrom, runs, otherUpper, fcbCheck}
-use Rattle.form.specs.FormLaws.{Passes, passes, first-upper, rest-upper}
+use Rattle.form.proofs.FormLaws.{Passes, passes, first-upper, rest-upper}
 
 -- no line, the first `off` units down, crosses a multiple of half an inch
 unfoldable pub borders : ℕ → List ℕ → Bool
