@@ -1,14 +1,19 @@
 -- Laws of the checks and of the table of numbers.
 use Prim.Native.Nat.{ℕ}
-use mathlib.Core.Path.{_≡_, refl, sym, _∙_}
-use mathlib.Core.Bool.{Bool, true, false, true≢false, false≢true}
+use lib.Dec.{eqb}
+use mathlib.Core.Path.{_≡_, refl, sym, ap, _∙_}
+use mathlib.Core.Bool.{Bool, true, false, not, true≢false, false≢true}
+use mathlib.Core.Option.{Option}
+use mathlib.Core.Logic.{_⊎_, inl, inr}
+use mathlib.Core.List.{List, [], _∷_}
 use native.Mathlib.Omega.{arith}
+use Rattle.seq.specs.Words.{firstOr, when, listed}
 use Rattle.numbers.specs.declared.Cause.{Cause}
 use Rattle.numbers.specs.declared.Checked.{Checked}
 use Rattle.numbers.specs.declared.Checked.the-variants.{Sound, Faulty}
 use Rattle.numbers.specs.declared.Refusal.{Refusal}
 use Rattle.numbers.specs.declared.Refusal.the-variants.{Accepted, NotListed, BadRecord, LoadCheck, PageWaiting, PageStarted, NoPage, BadIndex, TooShort, BadStore, BadForm, TwoPages}
-use Rattle.numbers.specs.Numbers.{rowOf, isAccepted, isSound}
+use Rattle.numbers.specs.Numbers.{SenseStep, keep, rowOf, numberOf, isAccepted, checked, isSound}
 
 -- a fault is not sound, and what is sound is `Sound`
 pub faulty : {c : Cause} → Faulty c ≡ Sound → ⊥
@@ -34,3 +39,46 @@ accepted-is TooShort e = absurd (false≢true e)
 accepted-is BadStore e = absurd (false≢true e)
 accepted-is BadForm e = absurd (false≢true e)
 accepted-is TwoPages e = absurd (false≢true e)
+
+pub not-accepted : {x : Refusal} → isAccepted x ≡ false → x ≡ Accepted → ⊥
+unfolding isAccepted rowOf
+not-accepted n e = true≢false (sym (ap isAccepted e) ∙ n)
+
+-- where none of an order held, a load's check found nothing
+pub passed-check : (d : Checked) (ts : List (Option Refusal)) → firstOr Accepted (checked d ∷ ts) ≡ Accepted → (d ≡ Sound) × (firstOr Accepted ts ≡ Accepted)
+unfolding firstOr checked isAccepted rowOf
+passed-check Sound ts e = (refl, e)
+passed-check (Faulty c) ts e = absurd (not-accepted {x = LoadCheck c} refl e)
+
+-- Refusals but 1, 3 and 5 keep the sense.
+unfoldable pub keeps : Refusal → Bool
+keeps x = not (listed (1 ∷ 3 ∷ 5 ∷ []) (numberOf x))
+
+pub sense-kept : (n : ℕ) (x : Refusal) → keeps x ≡ true → rowOf n x .sense ≡ keep
+unfolding keeps rowOf
+sense-kept n Accepted e = refl
+sense-kept n NotListed e = absurd (false≢true e)
+sense-kept n BadRecord e = refl
+sense-kept n (LoadCheck c) e = absurd (false≢true e)
+sense-kept n PageWaiting e = refl
+sense-kept n PageStarted e = absurd (false≢true e)
+sense-kept n NoPage e = refl
+sense-kept n BadIndex e = refl
+sense-kept n TooShort e = refl
+sense-kept n BadStore e = refl
+sense-kept n BadForm e = refl
+sense-kept n TwoPages e = refl
+
+-- an order gives no number that none of its refusals has
+pub number-not : (n : ℕ) (b : Bool) (x : Refusal) (ts : List (Option Refusal)) → (b ≡ false) ⊎ (eqb (numberOf x) n ≡ false)
+    → eqb (numberOf (firstOr Accepted ts)) n ≡ false → eqb (numberOf (firstOr Accepted (when b x ∷ ts))) n ≡ false
+unfolding firstOr when
+number-not n true x ts (inl e) h = absurd (true≢false e)
+number-not n true x ts (inr e) h = e
+number-not n false x ts e h = h
+
+pub number-check : (n : ℕ) (d : Checked) (ts : List (Option Refusal)) → eqb 3 n ≡ false
+    → eqb (numberOf (firstOr Accepted ts)) n ≡ false → eqb (numberOf (firstOr Accepted (checked d ∷ ts))) n ≡ false
+unfolding firstOr checked rowOf
+number-check n Sound ts e h = h
+number-check n (Faulty c) ts e h = e

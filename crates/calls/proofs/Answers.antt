@@ -1,0 +1,279 @@
+-- Document 01, "Calls": what each field of an answer says of the call that it answers.
+use Prim.Native.Nat.{ℕ, _≤_}
+use mathlib.Core.Path.{_≡_, refl, sym, ap, _∙_}
+use mathlib.Core.Bool.{Bool, true, false, cond, not, _&&_, true≢false, false≢true}
+use mathlib.Core.List.{List, [], _∷_}
+use mathlib.Core.Logic.{_⊎_, inl, inr}
+use native.Mathlib.Omega.{arith}
+use lib.ListN.{length}
+use lib.Dec.{eqb, ltb, lit≤}
+use borrow.Author.Tests.{ltb-true}
+use Rattle.seq.specs.Words.{firstOr, bit}
+use Rattle.seq.proofs.Laws.{and-false, cond-has}
+use Rattle.numbers.specs.declared.Sense.{Sense}
+use Rattle.numbers.specs.declared.Refusal.{Refusal}
+use Rattle.numbers.specs.declared.Refusal.the-variants.{Accepted, NotListed, BadRecord, PageWaiting, PageStarted, NoPage, BadIndex, TooShort, BadStore, TwoPages}
+use Rattle.numbers.specs.Numbers.{SenseStep, keep, anew, rowOf, numberOf, isAccepted, only}
+use Rattle.numbers.proofs.Laws.{accepted-is, number-not, number-check}
+use Rattle.form.specs.declared.Moved.{Moved}
+use Rattle.form.specs.Movement.{still, toTop}
+use Rattle.form.proofs.MovementLaws.{one-page}
+use Rattle.line.specs.declared.Causes.{Causes}
+use Rattle.line.specs.Line.{noCauses, orUnmatched}
+use Rattle.calls.specs.declared.Sheet.{Sheet}
+use Rattle.calls.specs.declared.Command.{Command}
+use Rattle.calls.specs.declared.Command.the-variants.{Write, Move, Controls, Loads, Unlisted}
+use Rattle.calls.specs.declared.Control.{Control}
+use Rattle.calls.specs.declared.Control.the-variants.{NoOp, SenseIo, Initialize, Clear, Block, Allow, Select}
+use Rattle.calls.specs.Core.{Core, World, started}
+use Rattle.calls.specs.Commands.{decode, controlTraits, traitsOf, isUnlisted}
+use Rattle.calls.specs.declared.Load.the-variants.{Fcb, TranslateTable, CopyModification, OverlaySequence, CopyNumber}
+use Rattle.calls.specs.Reset.{blankSheet, resetState, reset}
+use Rattle.calls.specs.Effects.{Effect, nothing, refused, done, movedSheet, moveOf, standing, movedCore, marked, written, loaded, atLine1, quietly, doMove, doWrite, doLoad, completing, doControl, doCommand}
+use Rattle.calls.specs.Calls.{Call, command, compose, release, movement, refusalOf, doCompose, doRelease, emptied, released, perform, effect, step}
+use Rattle.calls.proofs.Accepted.{Taken, taken}
+use Rattle.calls.proofs.Refused.{refused-effect, accepted-effect}
+
+abbrev pub isMove : Command → Bool
+isMove (Write m) = true
+isMove (Move m) = true
+isMove (Controls c) = false
+isMove (Loads l) = false
+isMove Unlisted = false
+
+abbrev pub isCommand : Call → Bool
+isCommand (command b r reply) = true
+isCommand (compose n out) = false
+isCommand release = false
+
+abbrev pub isCompose : Call → Bool
+isCompose (command b r reply) = false
+isCompose (compose n out) = true
+isCompose release = false
+
+abbrev pub isAnew : SenseStep → Bool
+isAnew keep = false
+isAnew (anew s) = true
+
+-- What every listed command does: No-Op and Sense leave the core and do not move; all others are done, with the movement that `movement` gives.
+pub data Shape (k : Core) (c : Command) (e : Effect) : Type 0 where
+  sets : (k′ : Core) (x : Causes) → traitsOf c .quiet ≡ false → e ≡ done k′ x (movement k c) → Shape k c e
+  quiet : (s : SenseStep) (f : Sense → List ℕ) → traitsOf c .quiet ≡ true → movement k c ≡ standing k → e ≡ quietly k s f → Shape k c e
+
+shape-completing : (k k′ : Core) (due t : Bool) (c : Control) → controlTraits c .completes ≡ true → controlTraits c .quiet ≡ false
+    → started (k .state .sheet) ≡ t → Shape k (Controls c) (completing k due k′)
+unfolding completing movement traitsOf
+shape-completing k k′ due true c e q s = sets (movedCore due k toTop) noCauses q (rw (e, s))
+shape-completing k k′ due false c e q s = sets k′ noCauses q (rw (e, s))
+
+pub shape : (k : Core) (c : Command) (r : List ℕ) → isUnlisted c ≡ false → Shape k c (doCommand k c r)
+unfolding doCommand doControl doWrite doMove doLoad movement traitsOf controlTraits
+shape k (Write m) r e = sets _ _ refl refl
+shape k (Move m) r e = sets _ _ refl refl
+shape k (Controls NoOp) r e = quiet keep nothing refl refl refl
+shape k (Controls SenseIo) r e = quiet _ _ refl refl refl
+shape k (Controls Initialize) r e = shape-completing k _ true (started (k .state .sheet)) Initialize refl refl refl
+shape k (Controls Clear) r e = shape-completing k _ false (started (k .state .sheet)) Clear refl refl refl
+shape k (Controls Block) r e = sets _ _ refl refl
+shape k (Controls Allow) r e = sets _ _ refl refl
+shape k (Controls (Select n)) r e = sets _ _ refl refl
+shape k (Loads l) r e = sets _ _ refl refl
+shape k Unlisted r e = absurd (true≢false e)
+
+pub acted : (k : Core) (b : ℕ) (r reply : List ℕ) → isAccepted (refusalOf k (command b r reply)) ≡ true → Shape k (decode b) (effect k (command b r reply))
+unfolding perform
+acted k b r reply e = rw (accepted-effect k (command b r reply) e) (shape k (decode b) r (taken k b r reply e .known))
+
+-- "The answer names its kind of refusal."
+names-shape : {k : Core} {c : Command} {e : Effect} → Shape k c e → e .answer .refusal ≡ Accepted
+unfolding done
+names-shape (sets k′ x q e) = ap (λ (e : Effect). e .answer .refusal) e
+names-shape (quiet s f q m e) = ap (λ (e : Effect). e .answer .refusal) e
+
+names-accepted : (k : Core) (c : Call) → isAccepted (refusalOf k c) ≡ true → effect k c .answer .refusal ≡ Accepted
+unfolding perform doCompose doRelease
+names-accepted k (command b r reply) e = names-shape (acted k b r reply e)
+names-accepted k (compose n out) e = rw (accepted-effect k (compose n out) e)
+names-accepted k release e = rw (accepted-effect k release e)
+
+pub names : (w : World) (c : Call) → step w c .answer .refusal ≡ refusalOf (w .core) c
+unfolding step refused
+names w c = go (isAccepted (refusalOf (w .core) c)) refl
+  where
+    go : (t : Bool) → isAccepted (refusalOf (w .core) c) ≡ t → step w c .answer .refusal ≡ refusalOf (w .core) c
+    go true e = names-accepted (w .core) c e ∙ sym (accepted-is _ e)
+    go false e = rw (refused-effect (w .core) c e)
+
+-- "Lines moved is 0 but for spacing and skipping": it is that of the command's movement, whose lines are those entered or looked at, and
+-- only Write and Move have any.
+lines-shape : {k : Core} {c : Command} {e : Effect} → Shape k c e → e .answer .lines ≡ movement k c .lines
+unfolding done still
+lines-shape (sets k′ x q e) = ap (λ (e : Effect). e .answer .lines) e
+lines-shape (quiet s f q m e) = ap (λ (e : Effect). e .answer .lines) e ∙ sym (ap (λ (v : Moved). v .lines) m)
+
+pub lines-moved : (k : Core) (b : ℕ) (r reply : List ℕ) → isAccepted (refusalOf k (command b r reply)) ≡ true
+    → effect k (command b r reply) .answer .lines ≡ movement k (decode b) .lines
+lines-moved k b r reply e = lines-shape (acted k b r reply e)
+
+pub lines-of-moves : (k : Core) (c : Command) → isMove c ≡ false → movement k c .lines ≡ 0
+unfolding movement still toTop
+lines-of-moves k (Write m) e = absurd (true≢false e)
+lines-of-moves k (Move m) e = absurd (true≢false e)
+lines-of-moves k (Controls c) e =
+    cond-has (λ (v : Moved). v .lines ≡ 0) (controlTraits c .completes && started (k .state .sheet)) (λ t. refl) (λ t. refl)
+lines-of-moves k (Loads l) e = refl
+lines-of-moves k Unlisted e = refl
+
+pub lines-of-others : (k : Core) (c : Call) → isCommand c ≡ false → effect k c .answer .lines ≡ 0
+unfolding effect perform doCompose doRelease refused
+lines-of-others k (command b r reply) e = absurd (true≢false e)
+lines-of-others k (compose n out) e = cond-has (λ (x : Effect). x .answer .lines ≡ 0) (isAccepted (refusalOf k (compose n out))) (λ t. refl) (λ t. refl)
+lines-of-others k release e = cond-has (λ (x : Effect). x .answer .lines ≡ 0) (isAccepted (refusalOf k release)) (λ t. refl) (λ t. refl)
+
+-- "An accepted Compose also gives copy number and overlay mark, which are 0 in every other answer."
+abbrev NoCopy : Effect → Type 0
+NoCopy e = (e .answer .copy ≡ 0) × (e .answer .mark ≡ 0)
+
+copy-shape : {k : Core} {c : Command} {e : Effect} → Shape k c e → NoCopy e
+unfolding done
+copy-shape (sets k′ x q e) = rw e (refl, refl)
+copy-shape (quiet s f q m e) = rw e (refl, refl)
+
+refused-copy : (k : Core) (c : Call) → isAccepted (refusalOf k c) ≡ false → NoCopy (effect k c)
+unfolding refused
+refused-copy k c e = rw (refused-effect k c e) (refl, refl)
+
+pub no-copy : (k : Core) (c : Call) → (isCompose c && isAccepted (refusalOf k c)) ≡ false → NoCopy (effect k c)
+unfolding perform doRelease
+no-copy k (command b r reply) e = go (isAccepted (refusalOf k (command b r reply))) refl
+  where
+    go : (t : Bool) → isAccepted (refusalOf k (command b r reply)) ≡ t → NoCopy (effect k (command b r reply))
+    go true a = copy-shape (acted k b r reply a)
+    go false a = refused-copy k (command b r reply) a
+no-copy k (compose n out) e = refused-copy k (compose n out) e
+no-copy k release e = go (isAccepted (refusalOf k release)) refl
+  where
+    go : (t : Bool) → isAccepted (refusalOf k release) ≡ t → NoCopy (effect k release)
+    go true a = rw (accepted-effect k release a) (refl, refl)
+    go false a = refused-copy k release a
+
+-- "Every accepted command but No-Op and Sense .. set the sense anew."
+anew-shape : {k : Core} {c : Command} {e : Effect} → Shape k c e → traitsOf c .quiet ≡ false → isAnew (e .sense) ≡ true
+unfolding done
+anew-shape (sets k′ x q e) n = rw e
+anew-shape (quiet s f q m e) n = absurd (true≢false (sym q ∙ n))
+
+pub sets-anew : (k : Core) (b : ℕ) (r reply : List ℕ) → isAccepted (refusalOf k (command b r reply)) ≡ true → traitsOf (decode b) .quiet ≡ false
+    → isAnew (effect k (command b r reply) .sense) ≡ true
+sets-anew k b r reply e q = anew-shape (acted k b r reply e) q
+
+-- "Page ready is 1 exactly when this very command completed a page": none waited before it, and one waits after it.
+cond-waits : (t : Bool) (a b : Sheet) → a .waiting ≡ false → b .waiting ≡ true → cond t a b .waiting ≡ not t
+cond-waits true a b p q = p
+cond-waits false a b p q = q
+
+waits-moved : (due : Bool) (s : Sheet) (m : Moved) → s .waiting ≡ false → movedSheet due s m .waiting ≡ not (eqb (m .pages) 0)
+unfolding movedSheet
+waits-moved due s m e = cond-waits (eqb (m .pages) 0) _ _ e refl
+
+waits-completing : (k k′ : Core) (due t : Bool) (c : Control) → k′ .state .sheet .waiting ≡ false → controlTraits c .completes ≡ true → started (k .state .sheet) ≡ t
+    → completing k due k′ .core .state .sheet .waiting ≡ not (eqb (movement k (Controls c) .pages) 0)
+unfolding completing movement done movedSheet toTop still
+waits-completing k k′ due true c w e s = rw (e, s)
+waits-completing k k′ due false c w e s = rw (e, s) w
+
+waits-after : (k : Core) (c : Command) (r : List ℕ) → k .state .sheet .waiting ≡ false → doCommand k c r .core .state .sheet .waiting ≡ not (eqb (movement k c .pages) 0)
+unfolding doCommand doControl doWrite doMove doLoad done loaded written marked atLine1 reset resetState blankSheet movement still controlTraits refused
+waits-after k (Write m) r e = waits-moved false _ (moveOf (k .state) m) e
+waits-after k (Move m) r e = waits-moved false (k .state .sheet) (moveOf (k .state) m) e
+waits-after k (Controls NoOp) r e = e
+waits-after k (Controls SenseIo) r e = e
+waits-after k (Controls Initialize) r e = waits-completing k (reset k) true (started (k .state .sheet)) Initialize refl refl refl
+waits-after k (Controls Clear) r e = waits-completing k k false (started (k .state .sheet)) Clear e refl refl
+waits-after k (Controls Block) r e = e
+waits-after k (Controls Allow) r e = e
+waits-after k (Controls (Select n)) r e = e
+waits-after k (Loads Fcb) r e = e
+waits-after k (Loads TranslateTable) r e = e
+waits-after k (Loads CopyModification) r e = e
+waits-after k (Loads OverlaySequence) r e = e
+waits-after k (Loads CopyNumber) r e = e
+waits-after k Unlisted r e = e
+
+abbrev Ready : Core → Effect → Type 0
+Ready k e = e .answer .ready ≡ (not (k .state .sheet .waiting) && e .core .state .sheet .waiting)
+
+now-waits : (w a b : Bool) → w ≡ false → b ≡ a → a ≡ (not w && b)
+now-waits true a b e h = absurd (true≢false e)
+now-waits false a b e h = sym h
+
+not-both : (w : Bool) → false ≡ (not w && w)
+not-both true = refl
+not-both false = refl
+
+-- an accepted command that is not quiet finds no page waiting
+pub was-free : {w q : Bool} → q ≡ false → (w && not q) ≡ false → w ≡ false
+was-free {w = true} {q = true} n e = absurd (true≢false n)
+was-free {w = true} {q = false} n e = e
+was-free {w = false} n e = refl
+
+ready-shape : {k : Core} {c : Command} {e : Effect} → Shape k c e → (k .state .sheet .waiting && not (traitsOf c .quiet)) ≡ false
+    → (k .state .sheet .waiting ≡ false → e .core .state .sheet .waiting ≡ not (eqb (movement k c .pages) 0)) → Ready k e
+unfolding done
+ready-shape {k} {c} {e} (sets k′ x q h) f w =
+    let free : k .state .sheet .waiting ≡ false = was-free q f in
+    ap (λ (x : Effect). x .answer .ready) h ∙ now-waits (k .state .sheet .waiting) _ _ free (w free)
+ready-shape {k} (quiet s f q m h) e w = rw h (not-both (k .state .sheet .waiting))
+
+released-waits : (k : Core) → released k .state .sheet .waiting ≡ false
+unfolding released emptied reset resetState blankSheet
+released-waits k = cond-has (λ (x : Core). x .state .sheet .waiting ≡ false) (k .state .sheet .due) (λ t. refl) (λ t. refl)
+
+refused-ready : (k : Core) (c : Call) → isAccepted (refusalOf k c) ≡ false → Ready k (effect k c)
+unfolding refused
+refused-ready k c e = rw (refused-effect k c e) (not-both (k .state .sheet .waiting))
+
+pub ready-exactly : (k : Core) (c : Call) → Ready k (effect k c)
+unfolding perform doCompose doRelease
+ready-exactly k c = go c (isAccepted (refusalOf k c)) refl
+  where
+    go : (c : Call) (t : Bool) → isAccepted (refusalOf k c) ≡ t → Ready k (effect k c)
+    go c false e = refused-ready k c e
+    go (command b r reply) true e =
+        ready-shape (acted k b r reply e) (taken k b r reply e .free)
+        (λ w. ap (λ (x : Effect). x .core .state .sheet .waiting) (accepted-effect k (command b r reply) e) ∙ waits-after k (decode b) r w)
+    go (compose n out) true e = rw (accepted-effect k (compose n out) e) (not-both (k .state .sheet .waiting))
+    go release true e = rw (accepted-effect k release e, released-waits k) (sym (and-false (not (k .state .sheet .waiting))))
+
+-- Every command completes at most one page, on every form, so that number 11 is never given.
+pub one-page-only : (k : Core) (c : Command) → movement k c .pages ≤ 1
+unfolding movement moveOf still toTop
+one-page-only k (Write m) = one-page _ _ m
+one-page-only k (Move m) = one-page _ _ m
+one-page-only k (Controls c) =
+    cond-has (λ (v : Moved). v .pages ≤ 1) (controlTraits c .completes && started (k .state .sheet)) (λ t. lit≤ tt) (λ t. lit≤ tt)
+one-page-only k (Loads l) = lit≤ tt
+one-page-only k Unlisted = lit≤ tt
+
+not-two : (k : Core) (c : Command) → ltb 1 (movement k c .pages) ≡ false
+not-two k c = go (ltb 1 (movement k c .pages)) refl
+  where
+    go : (t : Bool) → ltb 1 (movement k c .pages) ≡ t → t ≡ false
+    go true e = absurd (omega (arith, one-page-only k c, ltb-true 1 (movement k c .pages) e))
+    go false e = refl
+
+none-11 : eqb (numberOf (firstOr Accepted [])) 11 ≡ false
+unfolding rowOf firstOr
+none-11 = refl
+
+pub never-11 : (k : Core) (b : ℕ) (r reply : List ℕ) → eqb (numberOf (refusalOf k (command b r reply))) 11 ≡ false
+unfolding refusalOf rowOf
+never-11 k b r reply =
+    number-not 11 _ BadStore _ (inr refl)
+    (number-not 11 _ NotListed _ (inr refl)
+    (number-not 11 _ PageWaiting _ (inr refl)
+    (number-not 11 _ BadRecord _ (inr refl)
+    (number-not 11 _ PageStarted _ (inr refl)
+    (number-check 11 _ _ refl
+    (number-not 11 _ TooShort _ (inr refl)
+    (number-not 11 _ TwoPages [] (inl (not-two k (decode b))) none-11)))))))

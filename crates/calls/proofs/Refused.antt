@@ -1,0 +1,85 @@
+-- Document 01, "Numbers": a number is given exactly when the table says, and a refused call changes nothing but the sense shown.
+use Prim.Native.Nat.{ℕ}
+use mathlib.Core.Path.{_≡_, refl, sym, ap, _∙_}
+use mathlib.Core.Bool.{Bool, true, false, cond, not, _&&_}
+use mathlib.Core.List.{List, [], _∷_}
+use lib.ListN.{drop}
+use Rattle.seq.specs.Words.{firstOr, when, every, listed}
+use Rattle.seq.proofs.Laws.{First, first-is, first-only, and-false}
+use Rattle.numbers.specs.declared.Refusal.{Refusal}
+use Rattle.numbers.specs.declared.Refusal.the-variants.{Accepted, BadStore}
+use Rattle.numbers.specs.Numbers.{senseAfter, rowOf, isAccepted, only}
+use Rattle.numbers.proofs.Laws.{accepted-is, keeps, sense-kept}
+use Rattle.form.specs.Form.{formLengths}
+use Rattle.calls.specs.declared.Command.{Command}
+use Rattle.calls.specs.declared.Command.the-variants.{Write, Move, Controls, Loads, Unlisted}
+use Rattle.calls.specs.declared.Control.the-variants.{NoOp, SenseIo, Initialize, Clear, Block, Allow, Select}
+use Rattle.calls.specs.Core.{Stores, Core, World, sizesOk, started}
+use Rattle.calls.specs.Commands.{decode, isUnlisted}
+use Rattle.calls.specs.Contents.{fixedOk, rangesOk, clauses, coreOk}
+use Rattle.calls.specs.Effects.{Effect, refused, done, doMove, doWrite, doLoad, completing, doControl, doCommand}
+use Rattle.calls.specs.Calls.{Call, command, compose, release, testsOf, refusalOf, doCompose, doRelease, perform, sizeOf, effect, lent, Outcome, step}
+use Rattle.calls.specs.Start.{startTests, startRefusal, startWorld, noState, noPrinter, startOutcome}
+use Rattle.calls.proofs.Accepted.{Taken, taken}
+
+-- What a call does is what its refusal says, or what the accepted call does.
+pub refused-effect : (k : Core) (c : Call) → isAccepted (refusalOf k c) ≡ false → effect k c ≡ refused k (sizeOf c) (refusalOf k c)
+unfolding effect
+refused-effect k c e = rw e
+
+pub accepted-effect : (k : Core) (c : Call) → isAccepted (refusalOf k c) ≡ true → effect k c ≡ perform k c
+unfolding effect
+accepted-effect k c e = rw e
+
+-- The whole outcome of a refused call: its number and status, the sense as tabled, and all else as it was, every lent byte among it.
+pub refused-step : (w : World) (c : Call) → isAccepted (refusalOf (w .core) c) ≡ false
+    → (let x = refusalOf (w .core) c in
+    step w c
+    ≡ record { answer = only x (rowOf (sizeOf c) x .status); buffer = lent c; world = record { core = w .core; sense = senseAfter (w .sense) (rowOf (sizeOf c) x .sense) } })
+unfolding step refused
+refused-step w c e = rw (refused-effect (w .core) c e)
+
+-- Refusals but 1, 3 and 5 leave the sense too.
+pub refused-keeps : (w : World) (c : Call) → isAccepted (refusalOf (w .core) c) ≡ false → keeps (refusalOf (w .core) c) ≡ true → step w c .world ≡ w
+refused-keeps w c e h = ap (λ (o : Outcome). o .world) (refused-step w c e) ∙ rw (sense-kept (sizeOf c) (refusalOf (w .core) c) h)
+
+-- The number given is that of the first test of the order which holds, and only of that: Accepted exactly where none does.
+pub first-given : (k : Core) (c : Call) → First Accepted (testsOf k c) (refusalOf k c)
+unfolding refusalOf
+first-given k c = first-is Accepted (testsOf k c)
+
+pub only-first : (k : Core) (c : Call) (x : Refusal) → First Accepted (testsOf k c) x → refusalOf k c ≡ x
+unfolding refusalOf
+only-first k c x f = first-only f
+
+pub start-first : (len : ℕ) (ps : List ℕ) (m : Stores) → First Accepted (startTests len ps m) (startRefusal len ps m)
+unfolding startRefusal
+start-first len ps m = first-is Accepted (startTests len ps m)
+
+pub start-only : (len : ℕ) (ps : List ℕ) (m : Stores) (x : Refusal) → First Accepted (startTests len ps m) x → startRefusal len ps m ≡ x
+unfolding startRefusal
+start-only len ps m x f = first-only f
+
+-- Stores of a wrong size, or contents no printer has: 9 from every call, and nothing changes.
+bad-store : (k : Core) (c : Call) → coreOk k ≡ false → refusalOf k c ≡ BadStore
+unfolding refusalOf firstOr when
+bad-store k (command b r reply) e = rw e
+bad-store k (compose n out) e = rw e
+bad-store k release e = rw e
+
+pub nine : (w : World) (c : Call) → coreOk (w .core) ≡ false → step w c ≡ record { answer = only BadStore 0; buffer = lent c; world = w }
+unfolding isAccepted rowOf
+nine w c e = refused-step w c (ap isAccepted (bad-store (w .core) c e)) ∙ rw (bad-store (w .core) c e)
+
+-- A refused Start hands back a state of all zeros and leaves the stores; every call but Start refuses that state with 9, whatever the stores.
+pub refused-start : (len : ℕ) (ps : List ℕ) (m : Stores) → isAccepted (startRefusal len ps m) ≡ false
+    → startOutcome len ps m ≡ record { answer = only (startRefusal len ps m) 0; buffer = []; world = noPrinter m }
+unfolding startOutcome
+refused-start len ps m e = rw e
+
+zeros-bad : (m : Stores) → coreOk (noPrinter m .core) ≡ false
+unfolding coreOk every noPrinter noState rangesOk fixedOk formLengths
+zeros-bad m = and-false (sizesOk m)
+
+pub zeros-nine : (m : Stores) (c : Call) → step (noPrinter m) c ≡ record { answer = only BadStore 0; buffer = lent c; world = noPrinter m }
+zeros-nine m c = nine (noPrinter m) c (zeros-bad m)
