@@ -57,6 +57,16 @@ every-at n [] e = refl
 every-at zero (b ∷ bs) e = and-left b (every bs) e
 every-at (suc n) (b ∷ bs) e = every-at n bs (and-right b (every bs) e)
 
+-- and several tests that all hold, put together
+pub data Each : List Bool → Type 0 where
+  finally : Each []
+  also : {b : Bool} {bs : List Bool} → b ≡ true → Each bs → Each (b ∷ bs)
+
+pub every-of : {l : List Bool} → Each l → every l ≡ true
+unfolding every
+every-of finally = refl
+every-of (also e h) = and-both e (every-of h)
+
 -- what every listed number has, a listed one has
 listed-step : (p : ℕ → Bool) (n x : ℕ) (t r : Bool) → eqb n x ≡ t → p x ≡ true → (t || r) ≡ true → (r ≡ true → p n ≡ true) → p n ≡ true
 listed-step p n x true r et a e ih = ap p (eqb-true n x et) ∙ a

@@ -1,0 +1,146 @@
+-- Contents that a printer can have, part by part; Start's and a reset's are such.
+use Prim.Native.Nat.{ℕ, _≤_}
+use mathlib.Core.Path.{_≡_, refl, sym, ap, _∙_}
+use mathlib.Core.Bool.{Bool, true, false, not, _&&_, _||_}
+use mathlib.Core.List.{List, [], _∷_}
+use lib.ListN.{length, getD, take, length-replicate}
+use lib.Dec.{eqb, leb, lit≤}
+use borrow.Author.Tests.{eqb-true, eq-eqb, leb-true, le-leb}
+use Rattle.seq.specs.Words.{every, when, firstOr, listed, zeros, padded}
+use Rattle.seq.proofs.Laws.{every-at, padded-take, padded-zero}
+use Rattle.numbers.specs.declared.Checked.the-variants.{Sound}
+use Rattle.numbers.specs.Numbers.{isSound}
+use Rattle.numbers.proofs.Laws.{sound-is}
+use Rattle.form.specs.declared.Forms.{Forms}
+use Rattle.form.specs.Form.{formLengths, fcbCheck, printable, startFcb, fcbNow, formsOf, formsInRange}
+use Rattle.form.proofs.FormLaws.{fcb-fits, some-line, start-sound}
+use Rattle.line.specs.Line.{pageSize, tableSize, startSlots, slotsInRange}
+use Rattle.line.proofs.LineLaws.{length-startTables}
+use Rattle.copies.specs.declared.Copies.{Copies}
+use Rattle.copies.specs.Copies.{pairsOf, copiesOf, sequenceCheck, sequenceNow, startCopies, copiesInRange}
+use Rattle.copies.specs.Legends.{legendSize, legendsOk, noLegends}
+use Rattle.copies.proofs.LegendLaws.{none-ok}
+use Rattle.calls.specs.declared.Fixed.{Fixed}
+use Rattle.calls.specs.declared.Sheet.{Sheet}
+use Rattle.calls.specs.declared.State.{State}
+use Rattle.calls.specs.Core.{Stores, Core, sizesOk, linesNow, P}
+use Rattle.calls.specs.Contents.{fixedOk, lineOk, rangesOk, dueOk, markOk, coreOk}
+use Rattle.calls.specs.Reset.{blankSheet, noCells, resetState, resetStores, reset, fresh}
+
+pub record Sizes (m : Stores) : Type 0 where
+  pub page : length (m .page) ≡ pageSize
+  pub legends : length (m .legends) ≡ legendSize
+  pub tables : length (m .tables) ≡ tableSize
+
+pub record FormsGood (len : ℕ) (f : Forms) : Type 0 where
+  pub range : formsInRange f ≡ true
+  pub taken : fcbCheck len (fcbNow f) ≡ Sound
+
+pub record CopiesGood (c : Copies) : Type 0 where
+  pub range : copiesInRange c ≡ true
+  pub taken : sequenceCheck (sequenceNow c) ≡ Sound
+
+pub record SheetGood (p : ℕ) (s : Sheet) : Type 0 where
+  pub low : 1 ≤ s .line
+  pub high : s .line ≤ p
+  pub due : dueOk s ≡ true
+  pub mark : markOk s ≡ true
+
+pub record Good (k : Core) : Type 0 where
+  pub sizes : Sizes (k .stores)
+  pub fixed : fixedOk (k .state .fixed) ≡ true
+  pub forms : FormsGood (k .state .fixed .length) (k .state .forms)
+  pub slots : slotsInRange (k .state .slots) ≡ true
+  pub copies : CopiesGood (k .state .copies)
+  pub sheet : SheetGood (P (k .state)) (k .state .sheet)
+  pub legends : legendsOk (k .stores .legends) ≡ true
+
+-- They are just the contents that get no 9.
+sizes-good : (m : Stores) → sizesOk m ≡ true → Sizes m
+unfolding sizesOk
+sizes-good m e = record { page = eqb-true _ _ (every-at 0 _ e); legends = eqb-true _ _ (every-at 1 _ e); tables = eqb-true _ _ (every-at 2 _ e) }
+
+sizes-ok : (m : Stores) → Sizes m → sizesOk m ≡ true
+unfolding sizesOk every
+sizes-ok m s = rw (eq-eqb _ _ (s .page), eq-eqb _ _ (s .legends), eq-eqb _ _ (s .tables))
+
+line-ok : (p : ℕ) (s : Sheet) → 1 ≤ s .line → s .line ≤ p → lineOk p s ≡ true
+unfolding lineOk every
+line-ok p s a b = rw (le-leb 1 (s .line) a, le-leb (s .line) p b)
+
+pub good : (k : Core) → coreOk k ≡ true → Good k
+unfolding coreOk rangesOk lineOk
+good k e =
+    let r = every-at 1 _ e in
+    let l = every-at 4 _ r in
+    record {
+      sizes = sizes-good (k .stores) (every-at 0 _ e);
+      fixed = every-at 0 _ r;
+      forms = record { range = every-at 1 _ r; taken = sound-is _ (every-at 4 _ e) };
+      slots = every-at 2 _ r;
+      copies = record { range = every-at 3 _ r; taken = sound-is _ (every-at 5 _ e) };
+      sheet = record { low = leb-true _ _ (every-at 0 _ l); high = leb-true _ _ (every-at 1 _ l); due = every-at 2 _ e; mark = every-at 3 _ e };
+      legends = every-at 6 _ e;
+    }
+
+pub ok : (k : Core) → Good k → coreOk k ≡ true
+unfolding coreOk rangesOk every isSound
+ok k g =
+    rw
+    (sizes-ok (k .stores) (g .sizes), g .fixed, g .forms .range, g .slots, g .copies .range, line-ok (P (k .state)) (k .state .sheet) (g .sheet .low) (g .sheet .high),
+    g .sheet .due, g .sheet .mark, g .forms .taken, g .copies .taken, g .legends)
+
+-- The form length is listed.
+pub form-listed : (f : Fixed) → fixedOk f ≡ true → listed formLengths (f .length) ≡ true
+unfolding fixedOk
+form-listed f e = every-at 0 _ e
+
+-- Forms control that its load takes is kept as it was sent, and has a line 1.
+pub forms-now : (r : List ℕ) → fcbNow (formsOf r) ≡ r
+unfolding formsOf
+forms-now r = padded-take 144 r
+
+module _ (len : ℕ) (r : List ℕ) (l : listed formLengths len ≡ true) (e : fcbCheck len r ≡ Sound) where
+  pub forms-good : FormsGood len (formsOf r)
+  unfolding formsInRange formsOf every
+  forms-good =
+      record { range = rw (le-leb (length r) 144 (fcb-fits len r l e), padded-zero 144 r); taken = rw (padded-take 144 r) e }
+
+  pub forms-line : 1 ≤ length (printable len (fcbNow (formsOf r)))
+  forms-line = rw (forms-now r) (some-line len r l e)
+
+pub blank-good : (p l : ℕ) → 1 ≤ l → l ≤ p → SheetGood p (blankSheet l)
+unfolding blankSheet dueOk markOk
+blank-good p l a b = record { low = a; high = b; due = refl; mark = refl }
+
+start-copies : CopiesGood startCopies
+unfolding startCopies copiesInRange sequenceCheck pairsOf copiesOf every padded firstOr when
+start-copies = record { range = refl; taken = refl }
+
+start-slots : slotsInRange startSlots ≡ true
+unfolding startSlots slotsInRange every
+start-slots = refl
+
+pub no-cells : length noCells ≡ pageSize
+unfolding noCells
+no-cells = length-replicate {A = ℕ} pageSize 0
+
+no-legends : length noLegends ≡ legendSize
+unfolding noLegends
+no-legends = length-replicate {A = ℕ} legendSize 0
+
+-- A reset leaves such contents, and so do Start and a finished reset.
+module _ (f : Fixed) (blocked : Bool) (page : List ℕ) (e : fixedOk f ≡ true) (size : length page ≡ pageSize) where
+  pub reset-good : Good (record { state = resetState f blocked; stores = resetStores page })
+  unfolding resetState resetStores linesNow
+  reset-good =
+      let l : listed formLengths (f .length) ≡ true = form-listed f e in
+      record {
+        sizes = record { page = size; legends = no-legends; tables = length-startTables };
+        fixed = e;
+        forms = forms-good (f .length) (startFcb (f .length)) l (start-sound (f .length) l);
+        slots = start-slots;
+        copies = start-copies;
+        sheet = blank-good _ 1 (lit≤ tt) (forms-line (f .length) (startFcb (f .length)) l (start-sound (f .length) l));
+        legends = none-ok;
+      }
