@@ -10,7 +10,7 @@ use lib.Seq.{length-take-le}
 use lib.Dec.{eqb, leb, ltb, lit≤}
 use borrow.Author.Tests.{leb-true, le-leb, ltb-false}
 use Rattle.seq.specs.Words.{all, every, firstOr, padded, empty}
-use Rattle.seq.proofs.Laws.{and-false, and-left, and-right, or-right, cond-has, every-at, finally, also, every-of, padded-take, padded-zero}
+use Rattle.seq.proofs.Laws.{and-false, and-left, and-right, or-right, or-true, cond-has, every-at, finally, also, every-of, padded-take, padded-zero}
 use Rattle.numbers.specs.declared.Checked.the-variants.{Sound}
 use Rattle.numbers.specs.declared.Refusal.the-variants.{Accepted, NotListed, BadRecord, PageWaiting, PageStarted, NoPage, BadIndex, TooShort, BadStore, TwoPages}
 use Rattle.numbers.specs.Numbers.{rowOf, numberOf, isAccepted}
@@ -69,10 +69,6 @@ went-on : {p c : ℕ} {m : Moved} → 1 ≤ c → c ≤ p → Went p c m → (1 
 went-on a b (stays l n e) = (omega arith, omega arith)
 went-on a b (goes l (down f h i)) = (omega arith, i)
 went-on a b (goes l (over f h i)) = (h, i)
-
-or-true : (b : Bool) → (b || true) ≡ true
-or-true true = refl
-or-true false = refl
 
 moved-good : (p : ℕ) (due : Bool) (s : Sheet) (m : Moved) → s .waiting ≡ false → dueOk s ≡ true → (1 ≤ m .line) × (m .line ≤ p) → SheetGood p (movedSheet due s m)
 unfolding movedSheet dueOk markOk

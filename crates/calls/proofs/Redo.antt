@@ -1,0 +1,238 @@
+-- Demand 3, the ground: after a finished reset a printer is a function of what Start fixed and the switch, and each later one is what
+-- the deeds since then, done again on it, leave.
+use Prim.Native.Nat.{ℕ}
+use mathlib.Core.Path.{_≡_, refl, sym, ap, _∙_}
+use mathlib.Core.Bool.{Bool, true, false, cond, not, _&&_, true≢false, false≢true}
+use mathlib.Core.List.{List, [], _∷_, _++_}
+use lib.ListN.{length}
+use Rattle.seq.specs.Words.{every, firstOr}
+use Rattle.seq.proofs.Laws.{every-at, not-true, cond-has}
+use Rattle.numbers.specs.declared.Refusal.the-variants.{Accepted}
+use Rattle.numbers.specs.Numbers.{rowOf, isAccepted}
+use Rattle.calls.specs.declared.Fixed.{Fixed}
+use Rattle.calls.specs.declared.Load.the-variants.{Fcb, TranslateTable, CopyModification, OverlaySequence, CopyNumber}
+use Rattle.calls.specs.declared.Control.the-variants.{NoOp, SenseIo, Initialize, Clear, Block, Allow, Select}
+use Rattle.calls.specs.declared.Command.{Command}
+use Rattle.calls.specs.declared.Command.the-variants.{Write, Move, Controls, Loads, Unlisted}
+use Rattle.calls.specs.Core.{Core, World, started}
+use Rattle.calls.specs.Commands.{decode, controlTraits, traitsOf}
+use Rattle.calls.specs.Reset.{blankSheet, noCells, resetState, resetStores, reset, fresh}
+use Rattle.calls.specs.Effects.{Effect, refused, done, doMove, written, doWrite, loaded, doLoad, completing, doControl, doCommand}
+use Rattle.calls.specs.Calls.{Call, command, compose, release, commandTests, checkOf, movement, refusalOf, doCompose, emptied, released, doRelease, perform, effect, step}
+use Rattle.calls.specs.Lists.{worldAfter, counts, Deed, commanded, wasReleased, readOf, deedOf, finishesReset, Given, given, Since, sinceNow, note, sinceOver, sinceReset}
+use Rattle.calls.proofs.Accepted.{Taken, taken}
+use Rattle.calls.proofs.Refused.{refused-effect, accepted-effect}
+use Rattle.calls.proofs.Answers.{Shape, sets, quiet, acted, was-free}
+use Rattle.calls.proofs.Blank.{Blank, blank-call}
+
+-- What does not count leaves the core: refused calls, No-Op and Sense, Compose.
+refused-core : (k : Core) (c : Call) → isAccepted (refusalOf k c) ≡ false → effect k c .core ≡ k
+unfolding refused
+refused-core k c e = ap (λ (x : Effect). x .core) (refused-effect k c e)
+
+quiet-core : {k : Core} {c : Command} {e : Effect} → Shape k c e → traitsOf c .quiet ≡ true → e .core ≡ k
+quiet-core (sets k′ x q e) h = absurd (true≢false (sym h ∙ q))
+quiet-core (quiet s f q m e) h = ap (λ (x : Effect). x .core) e
+
+pub idle-core : (k : Core) (c : Call) → counts k c ≡ false → effect k c .core ≡ k
+unfolding counts every perform doCompose
+idle-core k (command b r reply) e = go (isAccepted (refusalOf k (command b r reply))) refl (traitsOf (decode b) .quiet) refl
+  where
+    go : (a : Bool) → isAccepted (refusalOf k (command b r reply)) ≡ a → (q : Bool) → traitsOf (decode b) .quiet ≡ q → effect k (command b r reply) .core ≡ k
+    go false ea q eq = refused-core k (command b r reply) ea
+    go true ea true eq = quiet-core (acted k b r reply ea) eq
+    go true ea false eq = absurd (true≢false (rw (ea, eq) at e))
+idle-core k (compose n out) e = go (isAccepted (refusalOf k (compose n out))) refl
+  where
+    go : (a : Bool) → isAccepted (refusalOf k (compose n out)) ≡ a → effect k (compose n out) .core ≡ k
+    go false ea = refused-core k (compose n out) ea
+    go true ea = ap (λ (x : Effect). x .core) (accepted-effect k (compose n out) ea)
+idle-core k release e = refused-core k release e
+
+-- A deed done again: the reply buffer, and a record that the command ignores, do not matter.
+abbrev pub callOf : Deed → Call
+callOf (commanded b r) = command b r []
+callOf wasReleased = release
+
+same-tests : (k : Core) (c : Command) (r reply : List ℕ) → traitsOf c .quiet ≡ false
+    → firstOr Accepted (commandTests k c (readOf c r) []) ≡ firstOr Accepted (commandTests k c r reply)
+unfolding readOf checkOf traitsOf controlTraits
+same-tests k (Write m) r reply e = refl
+same-tests k (Move m) r reply e = refl
+same-tests k (Controls NoOp) r reply e = absurd (true≢false e)
+same-tests k (Controls SenseIo) r reply e = absurd (true≢false e)
+same-tests k (Controls Initialize) r reply e = refl
+same-tests k (Controls Clear) r reply e = refl
+same-tests k (Controls Block) r reply e = refl
+same-tests k (Controls Allow) r reply e = refl
+same-tests k (Controls (Select n)) r reply e = refl
+same-tests k (Loads l) r reply e = refl
+same-tests k Unlisted r reply e = refl
+
+same-doing : (k : Core) (c : Command) (r : List ℕ) → doCommand k c (readOf c r) ≡ doCommand k c r
+unfolding doCommand readOf refused rowOf
+same-doing k (Write m) r = refl
+same-doing k (Move m) r = refl
+same-doing k (Controls c) r = refl
+same-doing k (Loads l) r = refl
+same-doing k Unlisted r = refl
+
+again-command : (k : Core) (b : ℕ) (r reply : List ℕ) → traitsOf (decode b) .quiet ≡ false → isAccepted (refusalOf k (command b r reply)) ≡ true
+    → effect k (command b (readOf (decode b) r) []) ≡ effect k (command b r reply)
+unfolding refusalOf perform
+again-command k b r reply q e =
+    let a : isAccepted (refusalOf k (command b (readOf (decode b) r) [])) ≡ true = ap isAccepted (same-tests k (decode b) r reply q) ∙ e in
+    accepted-effect k (command b (readOf (decode b) r) []) a ∙ same-doing k (decode b) r ∙ sym (accepted-effect k (command b r reply) e)
+
+again : (k : Core) (c : Call) → counts k c ≡ true → effect k (callOf (deedOf c)) ≡ effect k c
+unfolding counts deedOf
+again k (command b r reply) e = again-command k b r reply (not-true _ (every-at 1 _ e)) (every-at 0 _ e)
+again k (compose n out) e = absurd (false≢true e)
+again k release e = refl
+
+again-given : (k : Core) (c : Call) → counts k c ≡ true → given k (callOf (deedOf c)) ≡ given k c
+unfolding given
+again-given k c e = rw (again k c e)
+
+-- No call changes what Start fixed.
+abbrev Fixes : Fixed → Core → Type 0
+Fixes f k = k .state .fixed ≡ f
+
+fixed-command : (k : Core) (c : Command) (r : List ℕ) → Fixes (k .state .fixed) (doCommand k c r .core)
+unfolding doCommand doControl doWrite doMove doLoad done written loaded completing reset resetState refused
+fixed-command k (Write m) r = refl
+fixed-command k (Move m) r = refl
+fixed-command k (Controls NoOp) r = refl
+fixed-command k (Controls SenseIo) r = refl
+fixed-command k (Controls Initialize) r = cond-has (λ (e : Effect). Fixes (k .state .fixed) (e .core)) (started (k .state .sheet)) (λ t. refl) (λ t. refl)
+fixed-command k (Controls Clear) r = cond-has (λ (e : Effect). Fixes (k .state .fixed) (e .core)) (started (k .state .sheet)) (λ t. refl) (λ t. refl)
+fixed-command k (Controls Block) r = refl
+fixed-command k (Controls Allow) r = refl
+fixed-command k (Controls (Select n)) r = refl
+fixed-command k (Loads Fcb) r = refl
+fixed-command k (Loads TranslateTable) r = refl
+fixed-command k (Loads CopyModification) r = refl
+fixed-command k (Loads OverlaySequence) r = refl
+fixed-command k (Loads CopyNumber) r = refl
+fixed-command k Unlisted r = refl
+
+fixed-perform : (k : Core) (c : Call) → Fixes (k .state .fixed) (perform k c .core)
+unfolding perform doCompose doRelease released emptied reset resetState
+fixed-perform k (command b r reply) = fixed-command k (decode b) r
+fixed-perform k (compose n out) = refl
+fixed-perform k release = cond-has (Fixes (k .state .fixed)) (k .state .sheet .due) (λ t. refl) (λ t. refl)
+
+fixed-call : (k : Core) (c : Call) → Fixes (k .state .fixed) (effect k c .core)
+unfolding effect refused
+fixed-call k c = cond-has (λ (e : Effect). Fixes (k .state .fixed) (e .core)) (isAccepted (refusalOf k c)) (λ t. fixed-perform k c) (λ t. refl)
+
+-- A finished reset leaves a printer that depends on form, pitches and switch alone.
+is-initialize : (c : Command) → traitsOf c .resets ≡ true → c ≡ Controls Initialize
+unfolding traitsOf controlTraits
+is-initialize (Write m) e = absurd (false≢true e)
+is-initialize (Move m) e = absurd (false≢true e)
+is-initialize (Controls NoOp) e = absurd (false≢true e)
+is-initialize (Controls SenseIo) e = absurd (false≢true e)
+is-initialize (Controls Initialize) e = refl
+is-initialize (Controls Clear) e = absurd (false≢true e)
+is-initialize (Controls Block) e = absurd (false≢true e)
+is-initialize (Controls Allow) e = absurd (false≢true e)
+is-initialize (Controls (Select n)) e = absurd (false≢true e)
+is-initialize (Loads l) e = absurd (false≢true e)
+is-initialize Unlisted e = absurd (false≢true e)
+
+initialized : (k : Core) (r : List ℕ) → started (k .state .sheet) ≡ false → k .stores .page ≡ noCells
+    → doCommand k (Controls Initialize) r .core ≡ fresh (k .state .fixed) (k .state .blocked)
+unfolding doCommand doControl completing done reset fresh
+initialized k r e p = rw (e, p)
+
+released-due : (k : Core) → k .state .sheet .due ≡ true → released k ≡ fresh (k .state .fixed) (k .state .blocked)
+unfolding released emptied reset fresh
+released-due k e = rw e
+
+finished : (k : Core) (c : Call) → Blank k → finishesReset k c ≡ true → effect k c .core ≡ fresh (k .state .fixed) (k .state .blocked)
+unfolding finishesReset counts perform doRelease
+finished k (command b r reply) h e =
+    let a : isAccepted (refusalOf k (command b r reply)) ≡ true = every-at 0 _ (every-at 0 _ e) in
+    let q : traitsOf (decode b) .quiet ≡ false = not-true _ (every-at 1 _ (every-at 0 _ e)) in
+    let u : started (k .state .sheet) ≡ false = not-true _ (every-at 2 _ e) in
+    let w : k .state .sheet .waiting ≡ false = was-free q (taken k b r reply a .free) in
+    ap (λ (x : Effect). x .core) (accepted-effect k (command b r reply) a)
+    ∙ ap (λ (c : Command). doCommand k c r .core) (is-initialize (decode b) (every-at 1 _ e))
+    ∙ initialized k r u (h w u)
+finished k (compose n out) h e = absurd (false≢true e)
+finished k release h e = ap (λ (x : Effect). x .core) (accepted-effect k release (every-at 0 _ e)) ∙ released-due k (every-at 1 _ e)
+
+-- Deeds done again, and what they give.
+pub redo : Core → List Deed → Core
+redo k [] = k
+redo k (d ∷ ds) = redo (effect k (callOf d) .core) ds
+
+pub redone : Core → List Deed → List Given
+redone k [] = []
+redone k (d ∷ ds) = given k (callOf d) ∷ redone (effect k (callOf d) .core) ds
+
+redo-one : (k : Core) (ds : List Deed) (d : Deed) → redo k (ds ++ (d ∷ [])) ≡ effect (redo k ds) (callOf d) .core
+unfolding redo
+redo-one k [] d = refl
+redo-one k (x ∷ ds) d = redo-one (effect k (callOf x) .core) ds d
+
+redone-one : (k : Core) (ds : List Deed) (d : Deed) → redone k (ds ++ (d ∷ [])) ≡ redone k ds ++ (given (redo k ds) (callOf d) ∷ [])
+unfolding redo redone
+redone-one k [] d = refl
+redone-one k (x ∷ ds) d = ap (λ (l : List Given). given k (callOf x) ∷ l) (redone-one (effect k (callOf x) .core) ds d)
+
+-- What a list of calls keeps: the core, and what the deeds gave, are those of the deeds since the latest finished reset, done again.
+pub record Tracks (f : Fixed) (k : Core) (s : Since) : Type 0 where
+  pub core : k ≡ redo (fresh f (s .switch)) (s .deeds)
+  pub gave : s .gave ≡ redone (fresh f (s .switch)) (s .deeds)
+  pub fixed : Fixes f k
+  pub blank : Blank k
+
+track-note : (f : Fixed) (k : Core) (s : Since) (c : Call) → Tracks f k s → Tracks f (effect k c .core) (note k s c)
+unfolding note sinceNow redo redone
+track-note f k s c t = go (finishesReset k c) refl (counts k c) refl
+  where
+    go : (p : Bool) → finishesReset k c ≡ p → (q : Bool) → counts k c ≡ q → Tracks f (effect k c .core) (note k s c)
+    go true ep q eq =
+        rw ep
+        (record {
+          core = finished k c (t .blank) ep ∙ ap (λ (g : Fixed). fresh g (k .state .blocked)) (t .fixed);
+          gave = refl;
+          fixed = fixed-call k c ∙ t .fixed;
+          blank = blank-call k c (t .blank);
+        })
+    go false ep true eq =
+        let from = fresh f (s .switch) in
+        rw (ep, eq)
+        (record {
+          core =
+              ap (λ (x : Effect). x .core) (sym (again k c eq))
+              ∙ ap (λ (x : Core). effect x (callOf (deedOf c)) .core) (t .core)
+              ∙ sym (redo-one from (s .deeds) (deedOf c));
+          gave =
+              ap (λ (l : List Given). l ++ (given k c ∷ [])) (t .gave)
+              ∙ ap (λ (a : Given). redone from (s .deeds) ++ (a ∷ []))
+              (sym (again-given k c eq) ∙ ap (λ (x : Core). given x (callOf (deedOf c))) (t .core))
+              ∙ sym (redone-one from (s .deeds) (deedOf c));
+          fixed = fixed-call k c ∙ t .fixed;
+          blank = blank-call k c (t .blank);
+        })
+    go false ep false eq = rw (ep, eq, idle-core k c eq) t
+
+track : (f : Fixed) (w : World) (s : Since) (cs : List Call) → Tracks f (w .core) s → Tracks f (worldAfter w cs .core) (sinceOver (w .core) s cs)
+unfolding worldAfter sinceOver step
+track f w s [] t = t
+track f w s (c ∷ cs) t = track f (step w c .world) (note (w .core) s c) cs (track-note f (w .core) s c t)
+
+-- From a printer just started, or just reset.
+pub tracked : (f : Fixed) (blocked : Bool) (w : World) (cs : List Call) → w .core ≡ fresh f blocked → Tracks f (worldAfter w cs .core) (sinceReset w cs)
+unfolding sinceReset sinceNow redo redone fresh resetState resetStores
+tracked f blocked w cs e =
+    track f w (sinceNow (w .core .state .blocked)) cs
+    (record {
+      core = e ∙ ap (λ (k : Core). fresh f (k .state .blocked)) (sym e);
+      gave = refl;
+      fixed = ap (λ (k : Core). k .state .fixed) e;
+      blank = λ _ _. ap (λ (k : Core). k .stores .page) e;
+    })
