@@ -225,7 +225,7 @@ ready-shape {k} {c} {e} (sets k′ x q h) f w =
     ap (λ (x : Effect). x .answer .ready) h ∙ now-waits (k .state .sheet .waiting) _ _ free (w free)
 ready-shape {k} (quiet s f q m h) e w = rw h (not-both (k .state .sheet .waiting))
 
-released-waits : (k : Core) → released k .state .sheet .waiting ≡ false
+pub released-waits : (k : Core) → released k .state .sheet .waiting ≡ false
 unfolding released emptied reset resetState blankSheet
 released-waits k = cond-has (λ (x : Core). x .state .sheet .waiting ≡ false) (k .state .sheet .due) (λ t. refl) (λ t. refl)
 

@@ -163,6 +163,11 @@ finished k (command b r reply) h e =
 finished k (compose n out) h e = absurd (false≢true e)
 finished k release h e = ap (λ (x : Effect). x .core) (accepted-effect k release (every-at 0 _ e)) ∙ released-due k (every-at 1 _ e)
 
+-- after which no page waits
+pub finished-waits : (k : Core) (c : Call) → Blank k → finishesReset k c ≡ true → effect k c .core .state .sheet .waiting ≡ false
+unfolding fresh resetState blankSheet
+finished-waits k c h e = ap (λ (x : Core). x .state .sheet .waiting) (finished k c h e)
+
 -- Deeds done again, and what they give.
 pub redo : Core → List Deed → Core
 redo k [] = k

@@ -1,0 +1,106 @@
+-- The user's third demand. Lists of calls with the same deeds since the latest finished reset leave printers that answer and print alike.
+use Prim.Native.Nat.{ℕ}
+use mathlib.Core.Path.{_≡_, refl, sym, ap, _∙_}
+use mathlib.Core.Bool.{Bool, true, false, cond}
+use mathlib.Core.List.{List, [], _∷_, _++_, map}
+use lib.ListN.{length, drop}
+use Rattle.seq.proofs.Laws.{cond-has}
+use Rattle.numbers.specs.declared.Sense.{Sense}
+use Rattle.numbers.specs.declared.Answer.{Answer}
+use Rattle.numbers.specs.Numbers.{isAccepted}
+use Rattle.calls.specs.declared.Fixed.{Fixed}
+use Rattle.calls.specs.Core.{Stores, Core, World}
+use Rattle.calls.specs.Reset.{fresh}
+use Rattle.calls.specs.Effects.{Effect, refused}
+use Rattle.calls.specs.Calls.{Call, compose, refusalOf, doCompose, perform, effect, over, Outcome, step}
+use Rattle.calls.specs.Start.{startRefusal, startWorld, startOutcome}
+use Rattle.calls.specs.Lists.{outcomes, worldAfter, Deed, Copy, copiesOfPage, Since, sinceReset}
+use Rattle.calls.proofs.Closed.{started-so}
+use Rattle.calls.proofs.Redo.{redo, redone, Tracks, tracked}
+
+-- The sense has no part in what a call answers, composes or leaves but in Sense's reply.
+answers-alike : (v w : World) (cs : List Call) → v .core ≡ w .core → map (λ o. o .answer) (outcomes v cs) ≡ map (λ o. o .answer) (outcomes w cs)
+unfolding outcomes step
+answers-alike v w [] e = refl
+answers-alike v w (c ∷ cs) e =
+    ap (λ (k : Core). effect k c .answer ∷ map (λ o. o .answer) (outcomes (step v c .world) cs)) e
+    ∙ ap (λ (l : List Answer). effect (w .core) c .answer ∷ l) (answers-alike (step v c .world) (step w c .world) cs (ap (λ (k : Core). effect k c .core) e))
+
+compose-front : (k : Core) (n : ℕ) (out : List ℕ) (s t : Sense)
+    → over (effect k (compose n out) .front s) out ≡ over (effect k (compose n out) .front t) out
+unfolding effect perform doCompose refused
+compose-front k n out s t = cond-has (λ (e : Effect). over (e .front s) out ≡ over (e .front t) out) (isAccepted (refusalOf k (compose n out))) (λ a. refl) (λ a. refl)
+
+after-alike : (v w : World) (cs : List Call) → v .core ≡ w .core → worldAfter v cs .core ≡ worldAfter w cs .core
+unfolding worldAfter step
+after-alike v w [] e = e
+after-alike v w (c ∷ cs) e = after-alike (step v c .world) (step w c .world) cs (ap (λ (k : Core). effect k c .core) e)
+
+compose-alike : (v w : World) (n : ℕ) (out : List ℕ) → v .core ≡ w .core → step v (compose n out) .buffer ≡ step w (compose n out) .buffer
+unfolding step
+compose-alike v w n out e =
+    compose-front (v .core) n out (v .sense) (w .sense) ∙ ap (λ (k : Core). over (effect k (compose n out) .front (w .sense)) out) e
+
+-- The copies of every page that calls complete, in order.
+unfoldable pub pagesOf : World → List Call → List (List Copy)
+pagesOf w [] = []
+pagesOf w (c ∷ cs) =
+    let rest = pagesOf (step w c .world) cs in
+    cond (step w c .answer .ready) (copiesOfPage (step w c .world .core) ∷ rest) rest
+
+pages-alike : (v w : World) (cs : List Call) → v .core ≡ w .core → pagesOf v cs ≡ pagesOf w cs
+unfolding pagesOf step
+pages-alike v w [] e = refl
+pages-alike v w (c ∷ cs) e =
+    ap (λ (l : List (List Copy)). cond (effect (v .core) c .answer .ready) (copiesOfPage (effect (v .core) c .core) ∷ l) l)
+    (pages-alike (step v c .world) (step w c .world) cs (ap (λ (k : Core). effect k c .core) e))
+    ∙ ap (λ (k : Core). cond (effect k c .answer .ready) (copiesOfPage (effect k c .core) ∷ pagesOf (step w c .world) cs) (pagesOf (step w c .world) cs)) e
+
+-- Two lists of calls, on printers v and w.
+pub record Alike (v w : World) (xs ys : List Call) : Type 0 where
+  -- "those commands and releases get equal answers", and each page that one of them completed has equal copies under equal numbers and marks
+  pub gave : sinceReset v xs .gave ≡ sinceReset w ys .gave
+  -- the printers differ in their sense at most
+  pub core : worldAfter v xs .core ≡ worldAfter w ys .core
+  -- whatever calls follow, alike on both, they get equal answers, and each page that they complete has equal copies, numbers and marks
+  pub answers : (zs : List Call) → map (λ o. o .answer) (outcomes (worldAfter v xs) zs) ≡ map (λ o. o .answer) (outcomes (worldAfter w ys) zs)
+  pub pages : (zs : List Call) → pagesOf (worldAfter v xs) zs ≡ pagesOf (worldAfter w ys) zs
+  -- and a Compose after them writes the same bytes
+  pub composes : (zs : List Call) (n : ℕ) (out : List ℕ)
+      → step (worldAfter (worldAfter v xs) zs) (compose n out) .buffer ≡ step (worldAfter (worldAfter w ys) zs) (compose n out) .buffer
+
+alike : (f : Fixed) (v w : World) (xs ys : List Call) → v .core ≡ fresh f false → w .core ≡ fresh f false
+    → sinceReset v xs .switch ≡ sinceReset w ys .switch → sinceReset v xs .deeds ≡ sinceReset w ys .deeds → Alike v w xs ys
+alike f v w xs ys ev ew p q =
+    let tv = tracked f false v xs ev in
+    let tw = tracked f false w ys ew in
+    let e : worldAfter v xs .core ≡ worldAfter w ys .core =
+    tv .core
+    ∙ ap (λ (b : Bool). redo (fresh f b) (sinceReset v xs .deeds)) p
+    ∙ ap (λ (d : List Deed). redo (fresh f (sinceReset w ys .switch)) d) q
+    ∙ sym (tw .core) in
+    record {
+      gave =
+          tv .gave
+          ∙ ap (λ (b : Bool). redone (fresh f b) (sinceReset v xs .deeds)) p
+          ∙ ap (λ (d : List Deed). redone (fresh f (sinceReset w ys .switch)) d) q
+          ∙ sym (tw .gave);
+      core = e;
+      answers = λ zs. answers-alike _ _ zs e;
+      pages = λ zs. pages-alike _ _ zs e;
+      composes = λ zs n out. compose-alike _ _ n out (after-alike _ _ zs e);
+    }
+
+-- Demand 3: from two accepted Starts with the same form and pitches, over whatever stores.
+pub demand-3 : (len : ℕ) (ps : List ℕ) (m m′ : Stores) (xs ys : List Call)
+    → isAccepted (startRefusal len ps m) ≡ true
+    → isAccepted (startRefusal len ps m′) ≡ true
+    → (let v = startOutcome len ps m .world in let w = startOutcome len ps m′ .world in
+    sinceReset v xs .switch ≡ sinceReset w ys .switch
+    → sinceReset v xs .deeds ≡ sinceReset w ys .deeds
+    → Alike v w xs ys)
+unfolding startWorld
+demand-3 len ps m m′ xs ys a a′ p q =
+    let f : Fixed = record { length = len; pitches = ps } in
+    alike f (startOutcome len ps m .world) (startOutcome len ps m′ .world) xs ys
+    (ap (λ (w : World). w .core) (started-so len ps m a)) (ap (λ (w : World). w .core) (started-so len ps m′ a′)) p q
