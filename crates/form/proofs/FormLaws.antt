@@ -1,18 +1,18 @@
 -- Of forms control that its load takes: at most 144 bytes, and from 1 to 132 printable lines. The starting FCB is such.
-use Prim.Native.Nat.{ℕ, _+_, _*_, _-_, _≤_, _<_, max}
+use Prim.Native.Nat.{ℕ, suc, _+_, _*_, _-_, _/_, _≤_, _<_, max}
 use mathlib.Core.Path.{_≡_, refl, sym, ap, _∙_}
 use mathlib.Core.Bool.{Bool, true, false, cond, not, _&&_, _||_, true≢false, false≢true, and-true}
-use mathlib.Core.List.{List, [], _∷_, map}
+use mathlib.Core.List.{List, [], _∷_, _++_, map}
 use native.Mathlib.Omega.{arith}
-use lib.ListN.{length}
+use lib.ListN.{length, set, length-replicate, replicate-append-replicate}
 use lib.Dec.{eqb, leb, ltb, lit≤}
 use borrow.Author.Tests.{ltb-true, lt-ltb, leb-true, leb-false, eqb-true}
-use Rattle.seq.specs.Words.{any, all, every, when, firstOr, listed, total}
+use Rattle.seq.specs.Words.{any, all, when, firstOr, listed, total, zeros, padded}
 use Rattle.seq.proofs.Laws.{and-left, and-right, or-left, or-right, not-false, listed-all, passed}
 use Rattle.numbers.specs.declared.Checked.the-variants.{Sound}
 use Rattle.numbers.specs.Numbers.{isSound}
 use Rattle.numbers.proofs.Laws.{faulty, sound-is}
-use Rattle.form.specs.Form.{formLengths, upper, channel, unitsOf, units, runs, runsFrom, unitsTotal, between, printableFrom, printable, edgeFrom, badChannel, otherUpper, oddRun, fcbCheck, channelAt, startFcb}
+use Rattle.form.specs.Form.{formLengths, upper, channel, unitsOf, units, runs, runsFrom, unitsTotal, between, printableFrom, printable, edgeFrom, badChannel, otherUpper, oddRun, fcbCheck, channelAt, startFcb, formsOf}
 
 -- What the four checks found.
 pub record Passes (len : ℕ) (f : List ℕ) : Type 0 where
@@ -63,11 +63,11 @@ pub rest-upper : (b : ℕ) (bs : List ℕ) → otherUpper (b ∷ bs) ≡ false �
 rest-upper b bs h = or-right (eqb (units b) 0) (otherUpper bs) h
 
 -- Forms are 72 to 288 units long.
-short-form : (n : ℕ) → listed formLengths n ≡ true → n ≤ 288
+pub short-form : (n : ℕ) → listed formLengths n ≡ true → n ≤ 288
 unfolding formLengths
 short-form n e = leb-true n 288 (listed-all (λ m. leb m 288) n formLengths refl e)
 
-long-form : (n : ℕ) → listed formLengths n ≡ true → 72 ≤ n
+pub long-form : (n : ℕ) → listed formLengths n ≡ true → 72 ≤ n
 unfolding formLengths
 long-form n e = leb-true 72 n (listed-all (λ m. leb 72 m) n formLengths refl e)
 
@@ -135,3 +135,23 @@ starting-P = refl
 
 pub start-sound : (len : ℕ) → listed formLengths len ≡ true → fcbCheck len (startFcb len) ≡ Sound
 start-sound len l = sound-is _ (and-left _ (eqb (channelAt (printable len (startFcb len)) 1) 1) (listed-all starts len formLengths starting-fcb l))
+
+-- The starting FCB as an array: all zeros but channel 1 at its fourth byte, and a count of six lines an inch.
+start-rest : (m : ℕ) → m ≤ 140 → zeros m ++ zeros (144 - suc (suc (suc (suc (length (zeros m)))))) ≡ zeros 140
+start-rest m h =
+    let k : m + (144 - suc (suc (suc (suc m)))) ≡ 140 = omega arith in
+    rw (length-replicate {A = ℕ} m 0) (replicate-append-replicate m (144 - suc (suc (suc (suc m)))) 0 ∙ ap zeros k)
+
+start-bytes : (m : ℕ) → m ≤ 140 → padded 144 (zeros 3 ++ 1 ∷ zeros m) ≡ set (zeros 144) 3 1
+unfolding padded
+start-bytes m h = ap (λ (l : List ℕ). 0 ∷ 0 ∷ 0 ∷ 1 ∷ l) (start-rest m h)
+
+start-count : (m n : ℕ) → 4 + m ≡ n → length (zeros 3 ++ 1 ∷ zeros m) ≡ n
+start-count m n h = omega (arith, length-replicate {A = ℕ} m 0)
+
+pub start-forms : (len : ℕ) → listed formLengths len ≡ true → formsOf (startFcb len) ≡ record { fcb = set (zeros 144) 3 1; count = len / 4 }
+unfolding formsOf startFcb
+start-forms len l =
+    let b = start-bytes (len / 4 - 4) (omega (arith, short-form len l)) in
+    let c = start-count (len / 4 - 4) (len / 4) (omega (arith, long-form len l)) in
+    λ i. record { fcb = b i; count = c i }
