@@ -86,9 +86,19 @@ good k e =
 pub ok : (k : Core) → Good k → coreOk k ≡ true
 unfolding coreOk rangesOk every isSound
 ok k g =
-    rw
-    (sizes-ok (k .stores) (g .sizes), g .fixed, g .forms .range, g .slots, g .copies .range, line-ok (P (k .state)) (k .state .sheet) (g .sheet .low) (g .sheet .high),
-    g .sheet .due, g .sheet .mark, g .forms .taken, g .copies .taken, g .legends)
+    rw (
+      sizes-ok (k .stores) (g .sizes),
+      g .fixed,
+      g .forms .range,
+      g .slots,
+      g .copies .range,
+      line-ok (P (k .state)) (k .state .sheet) (g .sheet .low) (g .sheet .high),
+      g .sheet .due,
+      g .sheet .mark,
+      g .forms .taken,
+      g .copies .taken,
+      g .legends,
+    )
 
 -- The form length is listed.
 pub form-listed : (f : Fixed) → fixedOk f ≡ true → listed formLengths (f .length) ≡ true

@@ -28,7 +28,7 @@ use Rattle.calls.specs.Reset.{blankSheet, noCells, resetState, resetStor
 use Rattle.calls.specs.Effects.{refused, done, movedSheet, moveOf, doMove, marked, written, writeCauses, doWrite, loadCheck, atLine1, slotLoaded, slotSelected, loaded, loadCauses, doLoad, completing, doControl, doCommand}
 use Rattle.calls.specs.Calls.{checkOf, movement, refusalOf, composedCopy, doCompose, emptied, released, doRelease, perform, effect, step}
 use Rattle.calls.specs.Start.{startRefusal, startWorld, noState, noPrinter, startOutcome}
-use Rattle.calls.specs.Lists.{worldAfter}
+use Rattle.calls.specs.Lists.{Deed, commanded, wasReleased, worldAfter, counts, readOf, deedOf, finishesReset, copyAt, copiesOfPage, given, sinceNow, note, sinceOver, sinceReset}
 
 -- A printer started over stores full of other bytes, with these pitches on the 3½ inch form; R1 to R12 have all four pitches 10.
 abbrev old : Stores
@@ -196,6 +196,32 @@ ours =
     ∷ record { pitches = tens; before = with 0x63 (zeros 18) ∷ []; last = command 0x04 [] (replicate 25 9); want = record { answer = says Accepted 0x0C false 0; buffer = 0x02 ∷ 0x08 ∷ 0 ∷ 0xC0 ∷ zeros 18 ++ (0 ∷ 0x12 ∷ 9 ∷ []); sense = noSense; sheet = at 1; copies = 1; page = noPage } }
     ∷ []
 
-pub table : map see (rows ++ ours) ≡ map (λ r. r .want) (rows ++ ours)
-unfolding rows ours joined when firstOr every padded causeOf rowOf isAccepted checked isSound formLengths pitchesListed pitchesOk unitsOf runsFrom runs unitsTotal printableFrom printable edgeFrom fcbCheck channelAt startFcb formsOf formsInRange entered round upToFirst spaced skipped moved still toTop slotAt putSlot isLoaded serving unprintable standIn cellOf translated anyUnprintable lineCells mergeRules mergeCell collides mergeLine anyCollides lineAt putLine pageWritten noCauses lineCauses orUnmatched causeByte startTable startTables startSlots slotsInRange tableCheck pairsOf copiesOf sequenceCheck markIn numberCheck withSequence withReference startCopies copyCount copyNumber copyMark copiesInRange segmentOf badHead cut segments legendCheck storedLegends legendText storedSegments legendsOk noLegends covers shown copyFrom composed sizesOk linesNow started codes lookUp decode controlTraits traitsOf fixedOk lineOk rangesOk dueOk markOk coreOk blankSheet noCells resetState resetStores reset fresh byte3 senseBytes refused done movedSheet moveOf doMove marked written writeCauses doWrite loadCheck atLine1 slotLoaded slotSelected loaded loadCauses doLoad completing doControl doCommand checkOf movement refusalOf composedCopy doCompose emptied released doRelease perform effect step startRefusal startWorld noState noPrinter startOutcome worldAfter
-table = refl
+-- What counts since the latest finished reset, of lists with refused calls, No-Op, Sense and Compose among them: first since the Release
+-- that did a reset with Block on, then since Start.
+pub record Counted : Type 0 where
+  pub calls : List Call
+  pub switch : Bool
+  pub deeds : List Deed
+
+unfoldable pub lists : List Counted
+lists =
+    record {
+      calls =
+          cmd 0x73 ∷ with 0x01 (0xC1 ∷ []) ∷ cmd 0xFF ∷ cmd 0x37 ∷ cmd 0x0B ∷ release ∷ release ∷ cmd 0x03 ∷ with 0x0B (1 ∷ []) ∷ with 0x63 (zeros 21)
+          ∷ cmd 0x7B ∷ command 0x04 [] (zeros 24) ∷ [];
+      switch = true;
+      deeds = commanded 0x0B [] ∷ commanded 0x7B [] ∷ [];
+    }
+    ∷ record {
+      calls = with 0x01 (0xC1 ∷ []) ∷ cmd 0x87 ∷ copy 1 ∷ cmd 0x0B ∷ release ∷ [];
+      switch = false;
+      deeds = commanded 0x01 (0xC1 ∷ []) ∷ commanded 0x87 [] ∷ wasReleased ∷ [];
+    }
+    ∷ []
+
+abbrev counted : Counted → Counted
+counted l = let s = sinceReset (begun tens) (l .calls) in record { calls = l .calls; switch = s .switch; deeds = s .deeds }
+
+pub table : (map see (rows ++ ours) ≡ map (λ r. r .want) (rows ++ ours)) × (map counted lists ≡ lists)
+unfolding rows ours lists joined when firstOr every padded causeOf rowOf isAccepted checked isSound formLengths pitchesListed pitchesOk unitsOf runsFrom runs unitsTotal printableFrom printable edgeFrom fcbCheck channelAt startFcb formsOf formsInRange entered round upToFirst spaced skipped moved still toTop slotAt putSlot isLoaded serving unprintable standIn cellOf translated anyUnprintable lineCells mergeRules mergeCell collides mergeLine anyCollides lineAt putLine pageWritten noCauses lineCauses orUnmatched causeByte startTable startTables startSlots slotsInRange tableCheck pairsOf copiesOf sequenceCheck markIn numberCheck withSequence withReference startCopies copyCount copyNumber copyMark copiesInRange segmentOf badHead cut segments legendCheck storedLegends legendText storedSegments legendsOk noLegends covers shown copyFrom composed sizesOk linesNow started codes lookUp decode controlTraits traitsOf fixedOk lineOk rangesOk dueOk markOk coreOk blankSheet noCells resetState resetStores reset fresh byte3 senseBytes refused done movedSheet moveOf doMove marked written writeCauses doWrite loadCheck atLine1 slotLoaded slotSelected loaded loadCauses doLoad completing doControl doCommand checkOf movement refusalOf composedCopy doCompose emptied released doRelease perform effect step startRefusal startWorld noState noPrinter startOutcome worldAfter counts readOf deedOf finishesReset sinceNow note sinceOver sinceReset copiesOfPage copyAt given
+table = (refl, refl)

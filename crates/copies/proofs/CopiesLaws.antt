@@ -2,17 +2,18 @@
 use Prim.Native.Nat.{ℕ, _+_, _-_, _/_, _%_, _≤_}
 use mathlib.Core.Path.{_≡_, refl}
 use mathlib.Core.Bool.{Bool, true, false, not, _&&_, _||_}
-use mathlib.Core.List.{List, map}
+use mathlib.Core.List.{List, [], _∷_, _++_, map}
 use native.Mathlib.Omega.{arith}
-use lib.ListN.{length, getD}
+use lib.ListN.{length, getD, replicate}
 use lib.Dec.{eqb, leb, ltb}
 use borrow.Author.Tests.{eqb-true, eqb-false, leb-true, ltb-false}
-use Rattle.seq.specs.Words.{any, total}
+use Rattle.seq.specs.Words.{any, when, firstOr, total, joined, zeros}
 use Rattle.seq.proofs.Laws.{and-left, and-right, or-right, not-true, not-false, passed}
-use Rattle.numbers.specs.declared.Checked.the-variants.{Sound}
+use Rattle.numbers.specs.declared.Cause.the-variants.{SequencePairs, SequenceCounts, NumberRecord}
+use Rattle.numbers.specs.declared.Checked.the-variants.{Sound, Faulty}
 use Rattle.numbers.proofs.Laws.{faulty}
 use Rattle.copies.specs.declared.Copies.{Copies}
-use Rattle.copies.specs.Copies.{tableCheck, pairsOf, copiesOf, wholePairs, badPair, sequenceCheck, numberCheck, copyNumber}
+use Rattle.copies.specs.Copies.{tableCheck, pairsOf, copiesOf, wholePairs, badPair, sequenceCheck, markIn, numberCheck, copyNumber}
 
 pub table-long : (r : List ℕ) → tableCheck r ≡ Sound → 256 ≤ length r
 unfolding tableCheck
@@ -40,3 +41,27 @@ number-some r e =
 pub number-most : (c : Copies) (k : ℕ) → c .reference ≤ 255 → k ≤ 255 → copyNumber c k ≤ 509
 unfolding copyNumber
 number-most c k r h = omega arith
+
+pub number-last : copyNumber (record { pairs = zeros 16; count = 0; reference = 255 }) 255 ≡ 509
+unfolding copyNumber
+number-last = refl
+
+-- Overlay sequences: odd, empty and nine pairs, judged before a zero count; a zero count, another mark, 256 copies; 255 copies in 8 pairs.
+pub sequence-table : map sequenceCheck
+    ((0 ∷ 0 ∷ 1 ∷ []) ∷ [] ∷ joined (replicate 9 (1 ∷ 0 ∷ []))
+    ∷ (1 ∷ 0 ∷ 0 ∷ 0 ∷ []) ∷ (1 ∷ 2 ∷ []) ∷ (255 ∷ 0 ∷ 1 ∷ 1 ∷ [])
+    ∷ (248 ∷ 0 ∷ joined (replicate 7 (1 ∷ 1 ∷ [])))
+    ∷ [])
+    ≡ Faulty SequencePairs ∷ Faulty SequencePairs ∷ Faulty SequencePairs ∷ Faulty SequenceCounts ∷ Faulty SequenceCounts ∷ Faulty SequenceCounts ∷ Sound ∷ []
+unfolding sequenceCheck pairsOf copiesOf joined firstOr when
+sequence-table = refl
+
+-- The mark of each copy of two, one and three.
+pub mark-table : map (λ k. markIn k (pairsOf (2 ∷ 1 ∷ 1 ∷ 0 ∷ 3 ∷ 1 ∷ []))) (1 ∷ 2 ∷ 3 ∷ 4 ∷ 5 ∷ 6 ∷ []) ≡ 1 ∷ 1 ∷ 0 ∷ 1 ∷ 1 ∷ 1 ∷ []
+unfolding markIn pairsOf
+mark-table = refl
+
+-- Copy numbers: none, zero and two bytes; one that is not zero.
+pub number-table : map numberCheck ([] ∷ (0 ∷ []) ∷ (1 ∷ 1 ∷ []) ∷ (255 ∷ []) ∷ []) ≡ Faulty NumberRecord ∷ Faulty NumberRecord ∷ Faulty NumberRecord ∷ Sound ∷ []
+unfolding numberCheck firstOr when
+number-table = refl

@@ -10,10 +10,11 @@ use lib.Dec.{eqb, leb, ltb, lit<}
 use borrow.Author.Tests.{ltb-false, le-ltb}
 use Rattle.seq.specs.Words.{any, empty, joined, when, firstOr, every, zeros, padded, zeroFrom}
 use Rattle.seq.proofs.Laws.{or-left, passed, zeros-all, padded-zero, length-padded}
-use Rattle.numbers.specs.declared.Checked.the-variants.{Sound}
+use Rattle.numbers.specs.declared.Cause.the-variants.{SegmentEnds, SegmentFields}
+use Rattle.numbers.specs.declared.Checked.the-variants.{Sound, Faulty}
 use Rattle.numbers.specs.Numbers.{isSound}
 use Rattle.numbers.proofs.Laws.{faulty}
-use Rattle.copies.specs.Legends.{headSize, legendSize, segmentLength, badHead, segmentTests, cut, segments, legendCheck, retext, storedLegends, storedSegments, legendsOk, noLegends}
+use Rattle.copies.specs.Legends.{headSize, legendSize, segmentLength, badHead, segmentTests, cut, segments, legendCheck, retext, storedLegends, storedSegments, legendsOk, noLegends, Segment, covers, shown}
 
 -- A segment without fault: six bytes that say what they may, and exactly its text.
 pub record Fit (s : List ℕ) : Type 0 where
@@ -188,3 +189,31 @@ module _ (f : List ℕ → List ℕ) (same : (x : List ℕ) → length (f x) ≡
     pub stored-ok : legendsOk (storedLegends f r) ≡ true
     unfolding storedLegends
     stored-ok = padded-ok (retext-fits (segments-fit r e)) stored-short
+
+-- The first fault of a record: an empty one, five bytes, six bytes with a zero before their missing text, one position too many, text that
+-- is short, a second segment with a fault behind a sound one, and the widest sound one.
+pub legend-table : map legendCheck
+    ([] ∷ (0 ∷ 0 ∷ 0 ∷ 0 ∷ 0 ∷ []) ∷ (1 ∷ 1 ∷ 0 ∷ 1 ∷ 1 ∷ 1 ∷ []) ∷ (1 ∷ 1 ∷ 1 ∷ 1 ∷ 2 ∷ 0xCC ∷ zeros 204) ∷ (1 ∷ 1 ∷ 1 ∷ 1 ∷ 1 ∷ 2 ∷ 0 ∷ [])
+    ∷ (1 ∷ 1 ∷ 1 ∷ 1 ∷ 1 ∷ 1 ∷ 0 ∷ 1 ∷ 1 ∷ 1 ∷ 1 ∷ 0 ∷ 1 ∷ 0 ∷ []) ∷ (0xFF ∷ 0xFF ∷ 0xFF ∷ 0xFF ∷ 1 ∷ 0xCC ∷ zeros 204)
+    ∷ [])
+    ≡ Faulty SegmentEnds ∷ Faulty SegmentEnds ∷ Faulty SegmentFields ∷ Faulty SegmentFields ∷ Faulty SegmentEnds ∷ Faulty SegmentFields ∷ Sound ∷ []
+unfolding legendCheck segments cut badHead joined firstOr when
+legend-table = refl
+
+-- "A cell is the last segment's text that covers it": a last segment that covers it shows its text, one that does not leaves what the
+-- segments before it show, and with none the page's cell is left.
+module _ (number line position : ℕ) where
+  shown-more : (gs : List Segment) (g : Segment) (c : ℕ)
+      → shown (gs ++ (g ∷ [])) number line position c
+      ≡ cond (covers g number line position) (getD (g .text) (position - g .firstPosition) 0) (shown gs number line position c)
+  unfolding shown
+  shown-more [] g c = refl
+  shown-more (h ∷ gs) g c = shown-more gs g _
+
+  pub last-covers : (gs : List Segment) (g : Segment) (c : ℕ) → covers g number line position ≡ true
+      → shown (gs ++ (g ∷ [])) number line position c ≡ getD (g .text) (position - g .firstPosition) 0
+  last-covers gs g c e = shown-more gs g c ∙ rw e
+
+  pub last-leaves : (gs : List Segment) (g : Segment) (c : ℕ) → covers g number line position ≡ false
+      → shown (gs ++ (g ∷ [])) number line position c ≡ shown gs number line position c
+  last-leaves gs g c e = shown-more gs g c ∙ rw e

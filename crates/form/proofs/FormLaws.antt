@@ -4,12 +4,13 @@ use mathlib.Core.Path.{_≡_, refl, sym, ap, _∙_}
 use mathlib.Core.Bool.{Bool, true, false, cond, not, _&&_, _||_, true≢false, false≢true, and-true}
 use mathlib.Core.List.{List, [], _∷_, _++_, map}
 use native.Mathlib.Omega.{arith}
-use lib.ListN.{length, set, length-replicate, replicate-append-replicate}
+use lib.ListN.{length, set, replicate, length-replicate, replicate-append-replicate}
 use lib.Dec.{eqb, leb, ltb, lit≤}
 use borrow.Author.Tests.{ltb-true, lt-ltb, leb-true, leb-false, eqb-true}
 use Rattle.seq.specs.Words.{any, all, when, firstOr, listed, total, zeros, padded}
 use Rattle.seq.proofs.Laws.{and-left, and-right, or-left, or-right, not-false, listed-all, passed}
-use Rattle.numbers.specs.declared.Checked.the-variants.{Sound}
+use Rattle.numbers.specs.declared.Cause.the-variants.{FcbChannel, FcbSpacing, FcbSum, FcbEdge}
+use Rattle.numbers.specs.declared.Checked.the-variants.{Sound, Faulty}
 use Rattle.numbers.specs.Numbers.{isSound}
 use Rattle.numbers.proofs.Laws.{faulty, sound-is}
 use Rattle.form.specs.Form.{formLengths, upper, channel, unitsOf, units, runs, runsFrom, unitsTotal, between, printableFrom, printable, edgeFrom, badChannel, otherUpper, oddRun, fcbCheck, channelAt, startFcb, formsOf}
@@ -155,3 +156,20 @@ start-forms len l =
     let b = start-bytes (len / 4 - 4) (omega (arith, short-form len l)) in
     let c = start-count (len / 4 - 4) (len / 4) (omega (arith, long-form len l)) in
     λ i. record { fcb = b i; count = c i }
+
+-- The four checks in their order, on the form of 84 units: what each record breaks first.
+pub fcb-table : map (fcbCheck 84)
+    -- channel 13, with another upper half too
+    (replicate 21 0x2D
+    -- another upper half; runs that are not whole half inches, though the sum is right
+    ∷ replicate 21 0x20 ∷ (zeros 3 ++ (0x10 ∷ 0x10 ∷ 0x30 ∷ 0x30 ∷ 0x30 ∷ zeros 15))
+    -- a sum too small, with a channel in an edge half inch too; an empty record
+    ∷ (1 ∷ zeros 17) ∷ []
+    -- a channel in the first half inch, and in the last
+    ∷ (1 ∷ zeros 20) ∷ (zeros 18 ++ (1 ∷ zeros 2))
+    -- 6, 8 and 12 lines per inch, and 8 after an inch of 6
+    ∷ zeros 21 ∷ replicate 28 0x10 ∷ replicate 42 0x30 ∷ (zeros 6 ++ replicate 20 0x10)
+    ∷ [])
+    ≡ Faulty FcbChannel ∷ Faulty FcbSpacing ∷ Faulty FcbSpacing ∷ Faulty FcbSum ∷ Faulty FcbSum ∷ Faulty FcbEdge ∷ Faulty FcbEdge ∷ Sound ∷ Sound ∷ Sound ∷ Sound ∷ []
+unfolding fcbCheck runs runsFrom unitsTotal unitsOf edgeFrom firstOr when
+fcb-table = refl

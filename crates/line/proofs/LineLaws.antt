@@ -7,7 +7,8 @@ use native.Mathlib.Omega.{arith}
 use lib.ListN.{length, take, drop, length-append, length-take, length-drop, length-replicate, length-map}
 use Rattle.seq.specs.Words.{all, when, firstOr}
 use Rattle.seq.proofs.Laws.{cond-has}
-use Rattle.line.specs.Line.{lineWidth, slotSize, tableSize, putSlot, translated, lineCells, mergeRules, mergeCell, collides, mergeLine, lineAt, putLine, pageWritten, startTable, startTables}
+use Rattle.line.specs.declared.Causes.{Causes}
+use Rattle.line.specs.Line.{causeByte, lineWidth, slotSize, tableSize, putSlot, translated, lineCells, mergeRules, mergeCell, collides, mergeLine, lineAt, putLine, pageWritten, startTable, startTables}
 
 pub length-translated : (ps t r : List ℕ) → length (translated ps t r) ≡ length r
 unfolding translated
@@ -72,3 +73,16 @@ merges =
 pub merge-table : map (λ (m : Merge). merge (m .old) (m .new) (mergeCell (m .old) (m .new)) (collides (m .old) (m .new))) merges ≡ merges
 unfolding mergeCell collides mergeRules firstOr when
 merge-table = refl
+
+-- Sense byte 1 of all four causes, and of each alone: as it is, and with Block on, which hides 80 and 08 alone.
+abbrev causes : Bool → Bool → Bool → Bool → Causes
+causes p l m c = record { unprintable = p; unloaded = l; unmatched = m; collision = c }
+
+abbrev bytes : Bool → List ℕ
+bytes blocked =
+    map (causeByte blocked)
+    (causes true true true true ∷ causes true false false false ∷ causes false true false false ∷ causes false false true false ∷ causes false false false true ∷ [])
+
+pub cause-bytes : bytes false ++ bytes true ≡ 0xB8 ∷ 0x80 ∷ 0x20 ∷ 0x10 ∷ 0x08 ∷ 0x30 ∷ 0 ∷ 0x20 ∷ 0x10 ∷ 0 ∷ []
+unfolding causeByte
+cause-bytes = refl

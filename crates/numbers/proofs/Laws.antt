@@ -5,15 +5,29 @@ use mathlib.Core.Path.{_≡_, refl, sym, ap, _∙_}
 use mathlib.Core.Bool.{Bool, true, false, not, true≢false, false≢true}
 use mathlib.Core.Option.{Option}
 use mathlib.Core.Logic.{_⊎_, inl, inr}
-use mathlib.Core.List.{List, [], _∷_}
+use mathlib.Core.List.{List, [], _∷_, map}
 use native.Mathlib.Omega.{arith}
-use Rattle.seq.specs.Words.{firstOr, when, listed}
+use Rattle.seq.specs.Words.{firstOr, when, listed, from}
 use Rattle.numbers.specs.declared.Cause.{Cause}
+use Rattle.numbers.specs.declared.Cause.the-variants.{FcbChannel, FcbSpacing, FcbSum, FcbEdge, TableShort, SequencePairs, SequenceCounts, NumberRecord, SegmentEnds, SegmentFields}
 use Rattle.numbers.specs.declared.Checked.{Checked}
 use Rattle.numbers.specs.declared.Checked.the-variants.{Sound, Faulty}
 use Rattle.numbers.specs.declared.Refusal.{Refusal}
 use Rattle.numbers.specs.declared.Refusal.the-variants.{Accepted, NotListed, BadRecord, LoadCheck, PageWaiting, PageStarted, NoPage, BadIndex, TooShort, BadStore, BadForm, TwoPages}
-use Rattle.numbers.specs.Numbers.{SenseStep, keep, rowOf, numberOf, isAccepted, checked, isSound}
+use Rattle.numbers.specs.Numbers.{SenseStep, keep, causeOf, rowOf, numberOf, isAccepted, checked, isSound}
+
+-- Numbers 0 to 11 and causes 1 to 10, in the order in which they are declared.
+pub every-number : map numberOf
+    (Accepted ∷ NotListed ∷ BadRecord ∷ LoadCheck FcbSum ∷ PageWaiting ∷ PageStarted ∷ NoPage ∷ BadIndex ∷ TooShort ∷ BadStore ∷ BadForm ∷ TwoPages ∷ [])
+    ≡ from 0 12
+unfolding rowOf
+every-number = refl
+
+pub every-cause : map (λ c. causeOf 0 c .number)
+    (FcbChannel ∷ FcbSpacing ∷ FcbSum ∷ FcbEdge ∷ TableShort ∷ SequencePairs ∷ SequenceCounts ∷ NumberRecord ∷ SegmentEnds ∷ SegmentFields ∷ [])
+    ≡ from 1 10
+unfolding causeOf
+every-cause = refl
 
 -- a fault is not sound, and what is sound is `Sound`
 pub faulty : {c : Cause} → Faulty c ≡ Sound → ⊥
@@ -68,6 +82,22 @@ sense-kept n TooShort e = refl
 sense-kept n BadStore e = refl
 sense-kept n BadForm e = refl
 sense-kept n TwoPages e = refl
+
+-- A refusal shows unit check, 0E, exactly when it has left something for Sense to tell.
+pub unit-check : (n : ℕ) (x : Refusal) → eqb (rowOf n x .status) 0x0E ≡ not (keeps x)
+unfolding keeps rowOf
+unit-check n Accepted = refl
+unit-check n NotListed = refl
+unit-check n BadRecord = refl
+unit-check n (LoadCheck c) = refl
+unit-check n PageWaiting = refl
+unit-check n PageStarted = refl
+unit-check n NoPage = refl
+unit-check n BadIndex = refl
+unit-check n TooShort = refl
+unit-check n BadStore = refl
+unit-check n BadForm = refl
+unit-check n TwoPages = refl
 
 -- an order gives no number that none of its refusals has
 pub number-not : (n : ℕ) (b : Bool) (x : Refusal) (ts : List (Option Refusal)) → (b ≡ false) ⊎ (eqb (numberOf x) n ≡ false)

@@ -7,7 +7,6 @@ use form::Forms;
 use line::Slots;
 use numbers::Answer;
 use numbers::Sense;
-
 ghost use mathlib.Core.Path.{_≡_};
 ghost use mathlib.Core.Bool.{true};
 ghost use Rattle.seq.specs.Words.{listed};
@@ -28,9 +27,13 @@ pub struct Step {
 impl Printer {
     // The sizes of the lent stores, of Sense's reply, and of a line.
     pub const PAGE_BYTES: usize = 26928;
+
     pub const LEGEND_BYTES: usize = 8192;
+
     pub const TABLE_BYTES: usize = 1024;
+
     pub const SENSE_BYTES: usize = 24;
+
     pub const LINE_CELLS: usize = 204;
 
     // What a refused Start hands back: all zeros, which no other call takes.
