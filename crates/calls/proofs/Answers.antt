@@ -14,7 +14,7 @@ use Rattle.numbers.specs.declared.Sense.{Sense}
 use Rattle.numbers.specs.declared.Refusal.{Refusal}
 use Rattle.numbers.specs.declared.Refusal.the-variants.{Accepted, NotListed, BadRecord, PageWaiting, PageStarted, NoPage, BadIndex, TooShort, BadStore, TwoPages}
 use Rattle.numbers.specs.Numbers.{SenseStep, keep, anew, rowOf, numberOf, isAccepted, only}
-use Rattle.numbers.proofs.Laws.{accepted-is, number-not, number-check}
+use Rattle.numbers.proofs.Laws.{accepted-is, isAnew, number-not, number-check}
 use Rattle.form.specs.declared.Moved.{Moved}
 use Rattle.form.specs.Movement.{still, toTop}
 use Rattle.form.proofs.MovementLaws.{one-page}
@@ -50,10 +50,6 @@ abbrev pub isCompose : Call → Bool
 isCompose (command b r reply) = false
 isCompose (compose n out) = true
 isCompose release = false
-
-abbrev pub isAnew : SenseStep → Bool
-isAnew keep = false
-isAnew (anew s) = true
 
 -- What every listed command does: No-Op and Sense leave the core and do not move; all others are done, with the movement that `movement` gives.
 pub data Shape (k : Core) (c : Command) (e : Effect) : Type 0 where

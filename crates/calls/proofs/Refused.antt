@@ -9,7 +9,7 @@ use Rattle.seq.proofs.Laws.{First, first-is, first-only, and-false}
 use Rattle.numbers.specs.declared.Refusal.{Refusal}
 use Rattle.numbers.specs.declared.Refusal.the-variants.{Accepted, BadStore}
 use Rattle.numbers.specs.Numbers.{senseAfter, rowOf, isAccepted, only}
-use Rattle.numbers.proofs.Laws.{accepted-is, keeps, sense-kept}
+use Rattle.numbers.proofs.Laws.{tells, sense-kept}
 use Rattle.form.specs.Form.{formLengths}
 use Rattle.calls.specs.declared.Command.{Command}
 use Rattle.calls.specs.declared.Command.the-variants.{Write, Move, Controls, Loads, Unlisted}
@@ -40,7 +40,7 @@ unfolding step refused
 refused-step w c e = rw (refused-effect (w .core) c e)
 
 -- Refusals but 1, 3 and 5 leave the sense too.
-pub refused-keeps : (w : World) (c : Call) → isAccepted (refusalOf (w .core) c) ≡ false → keeps (refusalOf (w .core) c) ≡ true → step w c .world ≡ w
+pub refused-keeps : (w : World) (c : Call) → isAccepted (refusalOf (w .core) c) ≡ false → tells (refusalOf (w .core) c) ≡ false → step w c .world ≡ w
 refused-keeps w c e h = ap (λ (o : Outcome). o .world) (refused-step w c e) ∙ rw (sense-kept (sizeOf c) (refusalOf (w .core) c) h)
 
 -- The number given is that of the first test of the order which holds, and only of that: Accepted exactly where none does.

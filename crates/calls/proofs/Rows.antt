@@ -178,6 +178,13 @@ ours =
     ∷ on-copy (with 0x35 (1 ∷ 1 ∷ 1 ∷ 1 ∷ 1 ∷ 2 ∷ 0xC1 ∷ 0xC2 ∷ 1 ∷ 1 ∷ 1 ∷ 1 ∷ 2 ∷ 1 ∷ 0x40 ∷ []) ∷ with 0x01 (0xC3 ∷ 0xC3 ∷ []) ∷ cmd 0x87 ∷ []) 1 1 0 1 (page (3 ∷ 3 ∷ []) 26926) (page (1 ∷ 0 ∷ []) 3058)
     -- The page after a Release begins empty and is a page of its own.
     ∷ on-copy (with 0x09 (0xC1 ∷ []) ∷ with 0x09 (0xC1 ∷ []) ∷ cmd 0x87 ∷ release ∷ with 0x01 (0xC2 ∷ []) ∷ cmd 0x87 ∷ []) 1 1 0 1 (page (2 ∷ []) 26927) (page (2 ∷ []) 3059)
+    -- A line that is left takes its mark with it.
+    ∷ record {
+      pitches = tens;
+      before = [];
+      last = with 0x09 (0xC1 ∷ []);
+      want = record { answer = says Accepted 0x0C false 1; buffer = []; sense = noSense; sheet = at 2; copies = 1; page = page (1 ∷ []) 26927 };
+    }
     -- A load on a started page is refused and has not moved the form.
     ∷ record { pitches = tens; before = cmd 0x0B ∷ []; last = with 0x63 (zeros 21); want = record { answer = says PageStarted 0x0E false 0; buffer = []; sense = sense3 0x02 0 0; sheet = at 2; copies = 1; page = noPage } }
     -- Page waiting comes before a record that is too long, and keeps the sense.

@@ -7,11 +7,12 @@ use native.Mathlib.Omega.{arith}
 use lib.ListN.{length, length-append, length-map}
 use lib.Dec.{ltb, lit≤}
 use borrow.Author.Tests.{ltb-true}
-use Rattle.seq.specs.Words.{any, lastOr, from}
+use Rattle.seq.specs.Words.{any, lastOr, from, zeros}
 use Rattle.seq.proofs.Laws.{or-left, or-right, not-true, length-from, cond-has}
 use Rattle.form.specs.declared.Motion.{Motion}
 use Rattle.form.specs.declared.Motion.the-variants.{Space, Skip}
 use Rattle.form.specs.declared.Moved.{Moved}
+use Rattle.form.specs.Form.{channelAt}
 use Rattle.form.specs.Movement.{Spot, spot, entered, round, upToFirst, has, spaced, skipped, moved}
 
 -- What every line of a walk is.
@@ -130,3 +131,25 @@ one-page ls c (Skip channel) =
     cond-has Near (any (has ls channel) (round (length ls) c))
     (λ e. all-last Near (lit≤ tt) (all-first Near (has ls channel) (all-round Near (length ls) c (λ l h k. lit≤ tt) (λ l h k. lit≤ tt))))
     (λ e. lit≤ tt)
+
+-- A form of 15 lines with channels 1, 9 and 12 on its first three: from a line, a motion, and what it does.
+pub record Try : Type 0 where
+  pub from-line : ℕ
+  pub motion : Motion
+  pub does : Moved
+
+abbrev try : ℕ → Motion → ℕ → ℕ → ℕ → Bool → Bool → Bool → Try
+try c m n p l nine twelve missed = record { from-line = c; motion = m; does = record { lines = n; pages = p; line = l; nine = nine; twelve = twelve; missed = missed } }
+
+abbrev tries : List Try
+tries =
+    -- lines 2 and 3; line 15, then line 1 of the next form and no further
+    try 1 (Space 2) 2 0 3 true true false ∷ try 14 (Space 3) 2 1 1 false false false
+    -- on this form; on the next; round to the own line; no match
+    ∷ try 1 (Skip 9) 1 0 2 false false false ∷ try 5 (Skip 9) 12 1 2 false false false ∷ try 1 (Skip 1) 15 1 1 false false false
+    ∷ try 5 (Skip 2) 15 1 1 false false true
+    ∷ []
+
+pub move-table : map (λ t. moved (1 ∷ 9 ∷ 0x0C ∷ zeros 12) (t .from-line) (t .motion)) tries ≡ map (λ t. t .does) tries
+unfolding moved spaced skipped entered round upToFirst channelAt
+move-table = refl

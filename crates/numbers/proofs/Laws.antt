@@ -14,7 +14,7 @@ use Rattle.numbers.specs.declared.Checked.{Checked}
 use Rattle.numbers.specs.declared.Checked.the-variants.{Sound, Faulty}
 use Rattle.numbers.specs.declared.Refusal.{Refusal}
 use Rattle.numbers.specs.declared.Refusal.the-variants.{Accepted, NotListed, BadRecord, LoadCheck, PageWaiting, PageStarted, NoPage, BadIndex, TooShort, BadStore, BadForm, TwoPages}
-use Rattle.numbers.specs.Numbers.{SenseStep, keep, causeOf, rowOf, numberOf, isAccepted, checked, isSound}
+use Rattle.numbers.specs.Numbers.{SenseStep, keep, anew, causeOf, rowOf, numberOf, isAccepted, checked, isSound}
 
 -- Numbers 0 to 11 and causes 1 to 10, in the order in which they are declared.
 pub every-number : map numberOf
@@ -64,40 +64,38 @@ unfolding firstOr checked isAccepted rowOf
 passed-check Sound ts e = (refl, e)
 passed-check (Faulty c) ts e = absurd (not-accepted {x = LoadCheck c} refl e)
 
--- Refusals but 1, 3 and 5 keep the sense.
-unfoldable pub keeps : Refusal → Bool
-keeps x = not (listed (1 ∷ 3 ∷ 5 ∷ []) (numberOf x))
+-- Refusals 1, 3 and 5 set the sense anew, and the others keep it; unit check, 0E, is shown exactly where there is something to tell.
+abbrev pub isAnew : SenseStep → Bool
+isAnew keep = false
+isAnew (anew s) = true
 
-pub sense-kept : (n : ℕ) (x : Refusal) → keeps x ≡ true → rowOf n x .sense ≡ keep
-unfolding keeps rowOf
-sense-kept n Accepted e = refl
-sense-kept n NotListed e = absurd (false≢true e)
-sense-kept n BadRecord e = refl
-sense-kept n (LoadCheck c) e = absurd (false≢true e)
-sense-kept n PageWaiting e = refl
-sense-kept n PageStarted e = absurd (false≢true e)
-sense-kept n NoPage e = refl
-sense-kept n BadIndex e = refl
-sense-kept n TooShort e = refl
-sense-kept n BadStore e = refl
-sense-kept n BadForm e = refl
-sense-kept n TwoPages e = refl
+abbrev pub tells : Refusal → Bool
+tells x = listed (1 ∷ 3 ∷ 5 ∷ []) (numberOf x)
 
--- A refusal shows unit check, 0E, exactly when it has left something for Sense to tell.
-pub unit-check : (n : ℕ) (x : Refusal) → eqb (rowOf n x .status) 0x0E ≡ not (keeps x)
-unfolding keeps rowOf
-unit-check n Accepted = refl
-unit-check n NotListed = refl
-unit-check n BadRecord = refl
-unit-check n (LoadCheck c) = refl
-unit-check n PageWaiting = refl
-unit-check n PageStarted = refl
-unit-check n NoPage = refl
-unit-check n BadIndex = refl
-unit-check n TooShort = refl
-unit-check n BadStore = refl
-unit-check n BadForm = refl
-unit-check n TwoPages = refl
+abbrev Told : ℕ → Refusal → Type 0
+Told n x = (isAnew (rowOf n x .sense) ≡ tells x) × (eqb (rowOf n x .status) 0x0E ≡ tells x)
+
+pub told : (n : ℕ) (x : Refusal) → Told n x
+unfolding rowOf
+told n Accepted = (refl, refl)
+told n NotListed = (refl, refl)
+told n BadRecord = (refl, refl)
+told n (LoadCheck c) = (refl, refl)
+told n PageWaiting = (refl, refl)
+told n PageStarted = (refl, refl)
+told n NoPage = (refl, refl)
+told n BadIndex = (refl, refl)
+told n TooShort = (refl, refl)
+told n BadStore = (refl, refl)
+told n BadForm = (refl, refl)
+told n TwoPages = (refl, refl)
+
+kept : (t : SenseStep) → isAnew t ≡ false → t ≡ keep
+kept keep e = refl
+kept (anew s) e = absurd (true≢false e)
+
+pub sense-kept : (n : ℕ) (x : Refusal) → tells x ≡ false → rowOf n x .sense ≡ keep
+sense-kept n x e = kept _ (told n x .0 ∙ e)
 
 -- an order gives no number that none of its refusals has
 pub number-not : (n : ℕ) (b : Bool) (x : Refusal) (ts : List (Option Refusal)) → (b ≡ false) ⊎ (eqb (numberOf x) n ≡ false)
