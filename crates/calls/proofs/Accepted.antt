@@ -1,14 +1,12 @@
 -- What is known of an accepted call: no test of its order held.
 use Prim.Native.Nat.{ℕ}
-use mathlib.Core.Path.{_≡_, refl, sym, ap, _∙_}
-use mathlib.Core.Bool.{Bool, true, false, not, _&&_}
+use mathlib.Core.Path.{_≡_, refl}
+use mathlib.Core.Bool.{true, false, not, _&&_}
 use mathlib.Core.List.{List}
 use lib.ListN.{length}
-use lib.Dec.{ltb}
 use Rattle.seq.specs.Words.{listed}
 use Rattle.seq.proofs.Laws.{and-left, and-right, not-false, passed}
 use Rattle.numbers.specs.declared.Checked.the-variants.{Sound}
-use Rattle.numbers.specs.declared.Refusal.the-variants.{Accepted}
 use Rattle.numbers.specs.Numbers.{rowOf, isAccepted}
 use Rattle.numbers.proofs.Laws.{accepted-is, not-accepted, passed-check}
 use Rattle.form.specs.Form.{formLengths, pitchesOk}
@@ -16,7 +14,7 @@ use Rattle.calls.specs.declared.Command.{Command}
 use Rattle.calls.specs.Core.{Stores, Core, sizesOk, started}
 use Rattle.calls.specs.Commands.{decode, traitsOf, isUnlisted, isLoad}
 use Rattle.calls.specs.Contents.{coreOk}
-use Rattle.calls.specs.Calls.{Call, command, compose, release, badRecord, checkOf, refusalOf}
+use Rattle.calls.specs.Calls.{command, release, badRecord, checkOf, refusalOf}
 use Rattle.calls.specs.Start.{startRefusal}
 
 pub record Taken (k : Core) (c : Command) (r : List ℕ) : Type 0 where

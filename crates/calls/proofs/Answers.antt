@@ -1,25 +1,23 @@
 -- Document 01, "Calls": what each field of an answer says of the call that it answers.
 use Prim.Native.Nat.{ℕ, _≤_}
 use mathlib.Core.Path.{_≡_, refl, sym, ap, _∙_}
-use mathlib.Core.Bool.{Bool, true, false, cond, not, _&&_, true≢false, false≢true}
-use mathlib.Core.List.{List, [], _∷_}
-use mathlib.Core.Logic.{_⊎_, inl, inr}
+use mathlib.Core.Bool.{Bool, true, false, cond, not, _&&_, true≢false}
+use mathlib.Core.List.{List, []}
+use mathlib.Core.Logic.{inl, inr}
 use native.Mathlib.Omega.{arith}
-use lib.ListN.{length}
 use lib.Dec.{eqb, ltb, lit≤}
 use borrow.Author.Tests.{ltb-true}
-use Rattle.seq.specs.Words.{firstOr, bit}
+use Rattle.seq.specs.Words.{firstOr}
 use Rattle.seq.proofs.Laws.{and-false, cond-has}
 use Rattle.numbers.specs.declared.Sense.{Sense}
-use Rattle.numbers.specs.declared.Refusal.{Refusal}
-use Rattle.numbers.specs.declared.Refusal.the-variants.{Accepted, NotListed, BadRecord, PageWaiting, PageStarted, NoPage, BadIndex, TooShort, BadStore, TwoPages}
-use Rattle.numbers.specs.Numbers.{SenseStep, keep, anew, rowOf, numberOf, isAccepted, only}
+use Rattle.numbers.specs.declared.Refusal.the-variants.{Accepted, NotListed, BadRecord, PageWaiting, PageStarted, TooShort, BadStore, TwoPages}
+use Rattle.numbers.specs.Numbers.{SenseStep, keep, rowOf, numberOf, isAccepted}
 use Rattle.numbers.proofs.Laws.{accepted-is, isAnew, number-not, number-check}
 use Rattle.form.specs.declared.Moved.{Moved}
 use Rattle.form.specs.Movement.{still, toTop}
 use Rattle.form.proofs.MovementLaws.{one-page}
 use Rattle.line.specs.declared.Causes.{Causes}
-use Rattle.line.specs.Line.{noCauses, orUnmatched}
+use Rattle.line.specs.Line.{noCauses}
 use Rattle.calls.specs.declared.Sheet.{Sheet}
 use Rattle.calls.specs.declared.Command.{Command}
 use Rattle.calls.specs.declared.Command.the-variants.{Write, Move, Controls, Loads, Unlisted}
@@ -31,7 +29,7 @@ use Rattle.calls.specs.declared.Load.the-variants.{Fcb, TranslateTable, 
 use Rattle.calls.specs.Reset.{blankSheet, resetState, reset}
 use Rattle.calls.specs.Effects.{Effect, nothing, refused, done, movedSheet, moveOf, standing, movedCore, marked, written, loaded, atLine1, quietly, doMove, doWrite, doLoad, completing, doControl, doCommand}
 use Rattle.calls.specs.Calls.{Call, command, compose, release, movement, refusalOf, doCompose, doRelease, emptied, released, perform, effect, step}
-use Rattle.calls.proofs.Accepted.{Taken, taken}
+use Rattle.calls.proofs.Accepted.{taken}
 use Rattle.calls.proofs.Refused.{refused-effect, accepted-effect}
 
 abbrev pub isMove : Command → Bool

@@ -1,7 +1,7 @@
 -- What demand 3 needs of every printer that Start and calls lead to: a page that is neither started nor waiting is all 00.
-use Prim.Native.Nat.{ℕ, _≤_, _<_}
-use mathlib.Core.Path.{_≡_, refl, sym, ap, _∙_}
-use mathlib.Core.Bool.{Bool, true, false, cond, not, _&&_, _||_, true≢false, and-true}
+use Prim.Native.Nat.{ℕ, _≤_}
+use mathlib.Core.Path.{_≡_, refl, sym, _∙_}
+use mathlib.Core.Bool.{Bool, true, false, not, _&&_, _||_, true≢false, and-true}
 use mathlib.Core.List.{List}
 use native.Mathlib.Omega.{arith}
 use lib.Dec.{eqb}
@@ -10,8 +10,8 @@ use Rattle.seq.proofs.Laws.{or-left, or-true, not-false, cond-has}
 use Rattle.numbers.specs.Numbers.{isAccepted}
 use Rattle.form.specs.declared.Motion.{Motion}
 use Rattle.form.specs.declared.Moved.{Moved}
-use Rattle.form.specs.Movement.{moved, toTop}
-use Rattle.form.proofs.MovementLaws.{Ahead, down, over, Went, stays, goes, went}
+use Rattle.form.specs.Movement.{toTop}
+use Rattle.form.proofs.MovementLaws.{down, over, Went, stays, goes, went}
 use Rattle.calls.specs.declared.Sheet.{Sheet}
 use Rattle.calls.specs.declared.Load.{Load}
 use Rattle.calls.specs.declared.Load.the-variants.{Fcb, TranslateTable, CopyModification, OverlaySequence, CopyNumber}
@@ -20,13 +20,13 @@ use Rattle.calls.specs.declared.Command.{Command}
 use Rattle.calls.specs.declared.Command.the-variants.{Write, Move, Controls, Loads, Unlisted}
 use Rattle.calls.specs.Core.{Core, linesNow, P, started}
 use Rattle.calls.specs.Commands.{decode, controlTraits, traitsOf}
-use Rattle.calls.specs.Reset.{blankSheet, noCells, resetState, resetStores, reset, fresh}
-use Rattle.calls.specs.Effects.{Effect, refused, done, movedSheet, movedCore, moveOf, doMove, marked, written, doWrite, atLine1, loaded, doLoad, completing, doControl, doCommand}
+use Rattle.calls.specs.Reset.{blankSheet, noCells, resetState, resetStores, reset}
+use Rattle.calls.specs.Effects.{Effect, refused, done, movedSheet, moveOf, doMove, marked, written, doWrite, atLine1, loaded, doLoad, completing, doControl, doCommand}
 use Rattle.calls.specs.Calls.{Call, command, compose, release, refusalOf, doCompose, emptied, released, doRelease, perform, effect}
 use Rattle.calls.proofs.Accepted.{Taken, taken}
 use Rattle.calls.proofs.Refused.{refused-effect, accepted-effect}
 use Rattle.calls.proofs.Answers.{was-free}
-use Rattle.calls.proofs.Good.{SheetGood, Good, good}
+use Rattle.calls.proofs.Good.{Good, good}
 
 abbrev pub BlankSheet : Sheet → List ℕ → Type 0
 BlankSheet s page = s .waiting ≡ false → started s ≡ false → page ≡ noCells

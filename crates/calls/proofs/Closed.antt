@@ -1,15 +1,15 @@
 -- "No calls after an accepted Start leave contents that get 9": each call keeps contents that a printer can have.
-use Prim.Native.Nat.{ℕ, zero, suc, _*_, _≤_}
-use mathlib.Core.Path.{_≡_, refl, sym, ap, _∙_}
-use mathlib.Core.Bool.{Bool, true, false, cond, not, _&&_, _||_}
+use Prim.Native.Nat.{ℕ, zero, suc, _≤_}
+use mathlib.Core.Path.{_≡_, refl, ap, _∙_}
+use mathlib.Core.Bool.{Bool, true, false, not, _&&_}
 use mathlib.Core.List.{List, [], _∷_}
-use mathlib.Core.Logic.{_⊎_, inl, inr}
+use mathlib.Core.Logic.{inl, inr}
 use native.Mathlib.Omega.{arith}
 use lib.ListN.{length, getD, set, take}
 use lib.Seq.{length-take-le}
 use lib.Dec.{eqb, leb, ltb, lit≤}
 use borrow.Author.Tests.{leb-true, le-leb, ltb-false}
-use Rattle.seq.specs.Words.{all, every, firstOr, padded, empty}
+use Rattle.seq.specs.Words.{all, firstOr, empty}
 use Rattle.seq.proofs.Laws.{and-false, and-left, and-right, or-right, or-true, cond-has, every-at, finally, also, every-of, padded-take, padded-zero}
 use Rattle.numbers.specs.declared.Checked.the-variants.{Sound}
 use Rattle.numbers.specs.declared.Refusal.the-variants.{Accepted, NotListed, BadRecord, PageWaiting, PageStarted, NoPage, BadIndex, TooShort, BadStore, TwoPages}
@@ -17,38 +17,36 @@ use Rattle.numbers.specs.Numbers.{rowOf, numberOf, isAccepted}
 use Rattle.numbers.proofs.Laws.{number-not, number-check}
 use Rattle.form.specs.declared.Motion.{Motion}
 use Rattle.form.specs.declared.Moved.{Moved}
-use Rattle.form.specs.Form.{formsOf, fcbCheck}
-use Rattle.form.specs.Movement.{moved, toTop}
+use Rattle.form.specs.Form.{fcbCheck}
+use Rattle.form.specs.Movement.{toTop}
 use Rattle.form.proofs.FormLaws.{few-lines}
-use Rattle.form.proofs.MovementLaws.{Ahead, down, over, Went, stays, goes, went}
+use Rattle.form.proofs.MovementLaws.{down, over, Went, stays, goes, went}
 use Rattle.line.specs.declared.Slots.{Slots}
-use Rattle.line.specs.Line.{lineWidth, slotSize, tableSize, pageSize, putSlot, serving, translated, lineCells, slotsInRange}
+use Rattle.line.specs.Line.{slotSize, tableSize, pageSize, serving, translated, slotsInRange}
 use Rattle.line.proofs.LineLaws.{length-translated, length-lineCells, length-pageWritten, length-putSlot}
 use Rattle.copies.specs.declared.Copies.{Copies}
 use Rattle.copies.specs.Copies.{sequenceCheck, numberCheck, tableCheck, withSequence, withReference, copiesInRange}
-use Rattle.copies.specs.Legends.{legendSize, legendsOk, legendCheck, storedLegends}
+use Rattle.copies.specs.Legends.{legendCheck}
 use Rattle.copies.proofs.CopiesLaws.{table-long, sequence-fits, number-some}
 use Rattle.copies.proofs.LegendLaws.{stored-size, stored-ok}
 use Rattle.calls.specs.declared.Sheet.{Sheet}
-use Rattle.calls.specs.declared.State.{State}
 use Rattle.calls.specs.declared.Load.{Load}
 use Rattle.calls.specs.declared.Load.the-variants.{Fcb, TranslateTable, CopyModification, OverlaySequence, CopyNumber}
-use Rattle.calls.specs.declared.Control.{Control}
 use Rattle.calls.specs.declared.Control.the-variants.{NoOp, SenseIo, Initialize, Clear, Block, Allow, Select}
 use Rattle.calls.specs.declared.Command.{Command}
 use Rattle.calls.specs.declared.Command.the-variants.{Write, Move, Controls, Loads, Unlisted}
-use Rattle.calls.specs.Core.{Stores, Core, World, withState, withPage, withLegends, withTables, withBlocked, withForms, withSlots, withCopies, withSheet, linesNow, P, started}
+use Rattle.calls.specs.Core.{Stores, Core, World, withState, withPage, withTables, withBlocked, withSlots, withCopies, withSheet, linesNow, P, started}
 use Rattle.calls.specs.Commands.{codes, lookUp, skips, decode, controlTraits, traitsOf}
 use Rattle.calls.specs.Contents.{fixedOk, dueOk, markOk, coreOk}
-use Rattle.calls.specs.Reset.{blankSheet, noCells, reset, fresh}
+use Rattle.calls.specs.Reset.{noCells, reset, fresh}
 use Rattle.calls.specs.Effects.{Effect, refused, done, movedSheet, movedCore, moveOf, doMove, marked, written, doWrite, loadCheck, atLine1, slotLoaded, slotSelected, loaded, doLoad, completing, doControl, doCommand}
-use Rattle.calls.specs.Calls.{Call, command, compose, release, badRecord, checkOf, refusalOf, doCompose, emptied, released, doRelease, perform, effect, step}
+use Rattle.calls.specs.Calls.{Call, command, compose, release, checkOf, refusalOf, doCompose, emptied, released, doRelease, perform, effect, step}
 use Rattle.calls.specs.Start.{startRefusal, startWorld, startOutcome}
 use Rattle.calls.specs.Lists.{worldAfter}
-use Rattle.calls.proofs.Accepted.{Taken, taken, Startable, startable}
+use Rattle.calls.proofs.Accepted.{Taken, taken, startable}
 use Rattle.calls.proofs.Refused.{refused-effect, accepted-effect}
 use Rattle.calls.proofs.Answers.{was-free, names}
-use Rattle.calls.proofs.Good.{Sizes, FormsGood, CopiesGood, SheetGood, Good, good, ok, form-listed, forms-now, forms-good, forms-line, blank-good, no-cells, reset-good}
+use Rattle.calls.proofs.Good.{CopiesGood, SheetGood, Good, ok, form-listed, forms-good, forms-line, blank-good, no-cells, reset-good}
 
 -- The core with another sheet, and another page as long.
 sheet-good : {k : Core} (x : Sheet) (p : List ℕ) → Good k → SheetGood (P (k .state)) x → length p ≡ pageSize → Good (withPage (withState k (withSheet (k .state) x)) p)

@@ -7,14 +7,10 @@ use mathlib.Core.List.{List, [], _∷_, _++_, map}
 use lib.ListN.{length, set, replicate}
 use Rattle.seq.specs.Words.{joined, when, firstOr, every, from, zeros, padded}
 use Rattle.numbers.specs.Numbers.{rowOf, numberOf, isSound}
-use Rattle.form.specs.declared.Forms.{Forms}
 use Rattle.form.specs.Form.{formLengths, pitchesListed, pitchesOk, unitsOf, runsFrom, runs, unitsTotal, printableFrom, printable, edgeFrom, fcbCheck, startFcb, formsOf, formsInRange}
-use Rattle.line.specs.declared.Slots.{Slots}
 use Rattle.line.specs.Line.{startTable, startTables, startSlots, slotsInRange}
-use Rattle.copies.specs.declared.Copies.{Copies}
 use Rattle.copies.specs.Copies.{pairsOf, copiesOf, sequenceCheck, startCopies, copiesInRange}
 use Rattle.copies.specs.Legends.{badHead, cut, segments, legendCheck, storedSegments, legendsOk, noLegends}
-use Rattle.calls.specs.declared.Sheet.{Sheet}
 use Rattle.calls.specs.Core.{Stores, Core, sizesOk, withState, withPage, withLegends, withTables, withForms, withSlots, withCopies, withSheet, linesNow}
 use Rattle.calls.specs.Commands.{codes, lookUp, decode, isUnlisted}
 use Rattle.calls.specs.Contents.{fixedOk, lineOk, rangesOk, dueOk, markOk, clauses, coreOk}

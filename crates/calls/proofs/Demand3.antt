@@ -2,8 +2,8 @@
 use Prim.Native.Nat.{ℕ}
 use mathlib.Core.Path.{_≡_, refl, sym, ap, _∙_}
 use mathlib.Core.Bool.{Bool, true, false, cond}
-use mathlib.Core.List.{List, [], _∷_, _++_, map}
-use lib.ListN.{length, drop}
+use mathlib.Core.List.{List, [], _∷_, map}
+use lib.ListN.{length}
 use Rattle.seq.proofs.Laws.{cond-has}
 use Rattle.numbers.specs.declared.Sense.{Sense}
 use Rattle.numbers.specs.declared.Answer.{Answer}
@@ -12,11 +12,11 @@ use Rattle.calls.specs.declared.Fixed.{Fixed}
 use Rattle.calls.specs.Core.{Stores, Core, World}
 use Rattle.calls.specs.Reset.{fresh}
 use Rattle.calls.specs.Effects.{Effect, refused}
-use Rattle.calls.specs.Calls.{Call, compose, refusalOf, doCompose, perform, effect, over, Outcome, step}
+use Rattle.calls.specs.Calls.{Call, compose, refusalOf, doCompose, perform, effect, over, step}
 use Rattle.calls.specs.Start.{startRefusal, startWorld, startOutcome}
-use Rattle.calls.specs.Lists.{outcomes, worldAfter, Deed, Copy, copiesOfPage, Since, sinceReset}
+use Rattle.calls.specs.Lists.{outcomes, worldAfter, Deed, Copy, copiesOfPage, sinceReset}
 use Rattle.calls.proofs.Closed.{started-so}
-use Rattle.calls.proofs.Redo.{redo, redone, Tracks, tracked}
+use Rattle.calls.proofs.Redo.{redo, redone, tracked}
 
 -- The sense has no part in what a call answers, composes or leaves but in Sense's reply.
 answers-alike : (v w : World) (cs : List Call) → v .core ≡ w .core → map (λ o. o .answer) (outcomes v cs) ≡ map (λ o. o .answer) (outcomes w cs)

@@ -1,12 +1,12 @@
 -- Contents that a printer can have, part by part; Start's and a reset's are such.
 use Prim.Native.Nat.{ℕ, _≤_}
-use mathlib.Core.Path.{_≡_, refl, sym, ap, _∙_}
-use mathlib.Core.Bool.{Bool, true, false, not, _&&_, _||_}
-use mathlib.Core.List.{List, [], _∷_}
-use lib.ListN.{length, getD, take, length-replicate}
-use lib.Dec.{eqb, leb, lit≤}
+use mathlib.Core.Path.{_≡_, refl}
+use mathlib.Core.Bool.{Bool, true}
+use mathlib.Core.List.{List}
+use lib.ListN.{length, length-replicate}
+use lib.Dec.{lit≤}
 use borrow.Author.Tests.{eqb-true, eq-eqb, leb-true, le-leb}
-use Rattle.seq.specs.Words.{every, when, firstOr, listed, zeros, padded}
+use Rattle.seq.specs.Words.{every, when, firstOr, listed, padded}
 use Rattle.seq.proofs.Laws.{every-at, padded-take, padded-zero}
 use Rattle.numbers.specs.declared.Checked.the-variants.{Sound}
 use Rattle.numbers.specs.Numbers.{isSound}
@@ -22,10 +22,9 @@ use Rattle.copies.specs.Legends.{legendSize, legendsOk, noLegends}
 use Rattle.copies.proofs.LegendLaws.{none-ok}
 use Rattle.calls.specs.declared.Fixed.{Fixed}
 use Rattle.calls.specs.declared.Sheet.{Sheet}
-use Rattle.calls.specs.declared.State.{State}
 use Rattle.calls.specs.Core.{Stores, Core, sizesOk, linesNow, P}
 use Rattle.calls.specs.Contents.{fixedOk, lineOk, rangesOk, dueOk, markOk, coreOk}
-use Rattle.calls.specs.Reset.{blankSheet, noCells, resetState, resetStores, reset, fresh}
+use Rattle.calls.specs.Reset.{blankSheet, noCells, resetState, resetStores}
 
 pub record Sizes (m : Stores) : Type 0 where
   pub page : length (m .page) ≡ pageSize

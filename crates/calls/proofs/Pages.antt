@@ -6,16 +6,13 @@ use mathlib.Core.List.{List, [], _∷_, _++_, map}
 use native.Mathlib.Omega.{arith}
 use native.Mathlib.Nat.{not-suc-le-zero, le-of-suc-le-suc}
 use lib.ListN.{length, getD, take, drop}
-use Rattle.seq.specs.Words.{every, lastOr, from}
-use Rattle.seq.proofs.Laws.{every-at, not-true, cond-has}
+use Rattle.seq.specs.Words.{lastOr, from}
+use Rattle.seq.proofs.Laws.{every-at, not-true}
 use Rattle.numbers.specs.declared.Sense.{Sense}
 use Rattle.numbers.specs.declared.Refusal.the-variants.{Accepted}
 use Rattle.numbers.specs.Numbers.{isAccepted, only}
 use Rattle.copies.specs.Copies.{copyCount}
 use Rattle.calls.specs.declared.Fixed.{Fixed}
-use Rattle.calls.specs.declared.Command.{Command}
-use Rattle.calls.specs.declared.Command.the-variants.{Write, Move, Controls, Loads, Unlisted}
-use Rattle.calls.specs.declared.Control.the-variants.{NoOp, SenseIo, Initialize, Clear, Block, Allow, Select}
 use Rattle.calls.specs.Core.{Core, World}
 use Rattle.calls.specs.Commands.{codes, lookUp, decode, traitsOf}
 use Rattle.calls.specs.Reset.{blankSheet, resetState, resetStores, fresh, senseBytes}
@@ -23,7 +20,7 @@ use Rattle.calls.specs.Effects.{Effect, refused, doControl, doCommand}
 use Rattle.calls.specs.Calls.{Call, command, compose, release, refusalOf, doCompose, doRelease, perform, effect, over, step}
 use Rattle.calls.specs.Lists.{worldAfter, counts, finishesReset, Copy, copyAt, copiesOfPage, Given, given, Since, sinceNow, note, sinceOver, sinceReset}
 use Rattle.calls.proofs.Accepted.{Taken, taken}
-use Rattle.calls.proofs.Refused.{refused-effect, accepted-effect}
+use Rattle.calls.proofs.Refused.{accepted-effect}
 use Rattle.calls.proofs.Answers.{ready-exactly, was-free, released-waits}
 use Rattle.calls.proofs.Blank.{Blank, blank-call}
 use Rattle.calls.proofs.Redo.{idle-core, finished-waits}

@@ -2,9 +2,8 @@
 -- the deeds since then, done again on it, leave.
 use Prim.Native.Nat.{ℕ}
 use mathlib.Core.Path.{_≡_, refl, sym, ap, _∙_}
-use mathlib.Core.Bool.{Bool, true, false, cond, not, _&&_, true≢false, false≢true}
+use mathlib.Core.Bool.{Bool, true, false, true≢false, false≢true}
 use mathlib.Core.List.{List, [], _∷_, _++_}
-use lib.ListN.{length}
 use Rattle.seq.specs.Words.{every, firstOr}
 use Rattle.seq.proofs.Laws.{every-at, not-true, cond-has}
 use Rattle.numbers.specs.declared.Refusal.the-variants.{Accepted}
@@ -18,9 +17,9 @@ use Rattle.calls.specs.Core.{Core, World, started}
 use Rattle.calls.specs.Commands.{decode, controlTraits, traitsOf}
 use Rattle.calls.specs.Reset.{blankSheet, noCells, resetState, resetStores, reset, fresh}
 use Rattle.calls.specs.Effects.{Effect, refused, done, doMove, written, doWrite, loaded, doLoad, completing, doControl, doCommand}
-use Rattle.calls.specs.Calls.{Call, command, compose, release, commandTests, checkOf, movement, refusalOf, doCompose, emptied, released, doRelease, perform, effect, step}
+use Rattle.calls.specs.Calls.{Call, command, compose, release, commandTests, checkOf, refusalOf, doCompose, emptied, released, doRelease, perform, effect, step}
 use Rattle.calls.specs.Lists.{worldAfter, counts, Deed, commanded, wasReleased, readOf, deedOf, finishesReset, Given, given, Since, sinceNow, note, sinceOver, sinceReset}
-use Rattle.calls.proofs.Accepted.{Taken, taken}
+use Rattle.calls.proofs.Accepted.{taken}
 use Rattle.calls.proofs.Refused.{refused-effect, accepted-effect}
 use Rattle.calls.proofs.Answers.{Shape, sets, quiet, acted, was-free}
 use Rattle.calls.proofs.Blank.{Blank, blank-call}

@@ -1,26 +1,20 @@
 -- Document 01, "Numbers": a number is given exactly when the table says, and a refused call changes nothing but the sense shown.
 use Prim.Native.Nat.{ℕ}
-use mathlib.Core.Path.{_≡_, refl, sym, ap, _∙_}
-use mathlib.Core.Bool.{Bool, true, false, cond, not, _&&_}
-use mathlib.Core.List.{List, [], _∷_}
-use lib.ListN.{drop}
-use Rattle.seq.specs.Words.{firstOr, when, every, listed}
+use mathlib.Core.Path.{_≡_, ap, _∙_}
+use mathlib.Core.Bool.{true, false}
+use mathlib.Core.List.{List, []}
+use Rattle.seq.specs.Words.{firstOr, when, every}
 use Rattle.seq.proofs.Laws.{First, first-is, first-only, and-false}
 use Rattle.numbers.specs.declared.Refusal.{Refusal}
 use Rattle.numbers.specs.declared.Refusal.the-variants.{Accepted, BadStore}
 use Rattle.numbers.specs.Numbers.{senseAfter, rowOf, isAccepted, only}
 use Rattle.numbers.proofs.Laws.{tells, sense-kept}
 use Rattle.form.specs.Form.{formLengths}
-use Rattle.calls.specs.declared.Command.{Command}
-use Rattle.calls.specs.declared.Command.the-variants.{Write, Move, Controls, Loads, Unlisted}
-use Rattle.calls.specs.declared.Control.the-variants.{NoOp, SenseIo, Initialize, Clear, Block, Allow, Select}
-use Rattle.calls.specs.Core.{Stores, Core, World, sizesOk, started}
-use Rattle.calls.specs.Commands.{decode, isUnlisted}
-use Rattle.calls.specs.Contents.{fixedOk, rangesOk, clauses, coreOk}
-use Rattle.calls.specs.Effects.{Effect, refused, done, doMove, doWrite, doLoad, completing, doControl, doCommand}
-use Rattle.calls.specs.Calls.{Call, command, compose, release, testsOf, refusalOf, doCompose, doRelease, perform, sizeOf, effect, lent, Outcome, step}
-use Rattle.calls.specs.Start.{startTests, startRefusal, startWorld, noState, noPrinter, startOutcome}
-use Rattle.calls.proofs.Accepted.{Taken, taken}
+use Rattle.calls.specs.Core.{Stores, Core, World, sizesOk}
+use Rattle.calls.specs.Contents.{fixedOk, rangesOk, coreOk}
+use Rattle.calls.specs.Effects.{refused}
+use Rattle.calls.specs.Calls.{Call, command, compose, release, testsOf, refusalOf, perform, sizeOf, effect, lent, Outcome, step}
+use Rattle.calls.specs.Start.{startTests, startRefusal, noState, noPrinter, startOutcome}
 
 -- What a call does is what its refusal says, or what the accepted call does.
 pub refused-effect : (k : Core) (c : Call) → isAccepted (refusalOf k c) ≡ false → effect k c ≡ refused k (sizeOf c) (refusalOf k c)

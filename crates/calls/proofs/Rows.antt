@@ -118,7 +118,7 @@ on-copy before index number mark n p out =
 abbrev r12 : List Call
 r12 = with 0x43 (2 ∷ 0 ∷ []) ∷ with 0x35 (2 ∷ 1 ∷ 1 ∷ 1 ∷ 0xCC ∷ 1 ∷ 0xC1 ∷ []) ∷ with 0x01 (0xC2 ∷ []) ∷ cmd 0x87 ∷ []
 
--- R1 to R12. Each is named by the last call that it sees.
+-- R1 to R12.
 unfoldable pub rows : List Row
 rows =
     -- R1

@@ -1,12 +1,11 @@
 -- Document 01, "Calls" and "Numbers": the calls but Start, their refusals in order, and one step.
 use Prim.Native.Nat.{ℕ, _+_, _*_}
-use mathlib.Core.Bool.{Bool, true, false, cond, not, _&&_, _||_}
+use mathlib.Core.Bool.{Bool, false, cond, not, _&&_, _||_}
 use mathlib.Core.Option.{Option}
 use mathlib.Core.List.{List, [], _∷_, _++_}
 use lib.ListN.{length, drop}
 use lib.Dec.{eqb, ltb}
 use Rattle.seq.specs.Words.{when, firstOr, empty}
-use Rattle.numbers.specs.declared.Sense.{Sense}
 use Rattle.numbers.specs.declared.Answer.{Answer}
 use Rattle.numbers.specs.declared.Checked.{Checked}
 use Rattle.numbers.specs.declared.Checked.the-variants.{Sound}
@@ -18,7 +17,6 @@ use Rattle.form.specs.Movement.{toTop}
 use Rattle.line.specs.Line.{lineWidth}
 use Rattle.copies.specs.Copies.{copyCount, copyNumber, copyMark}
 use Rattle.copies.specs.Legends.{legendSize, composed}
-use Rattle.calls.specs.declared.State.{State}
 use Rattle.calls.specs.declared.Command.{Command}
 use Rattle.calls.specs.declared.Command.the-variants.{Write, Move, Controls, Loads, Unlisted}
 use Rattle.calls.specs.Core.{Core, World, withState, withPage, withSheet, P, started}

@@ -1,7 +1,7 @@
 -- What each accepted command does: document 01, "Movement", "Writing a line", "Copies and legends", "Reset and sense" put together.
 use Prim.Native.Nat.{ℕ, _+_}
 use mathlib.Core.Bool.{Bool, true, false, cond, not, _&&_, _||_}
-use mathlib.Core.List.{List, [], _∷_}
+use mathlib.Core.List.{List, []}
 use lib.ListN.{length, getD, take, set}
 use lib.Dec.{eqb}
 use Rattle.seq.specs.Words.{bit}

@@ -1,7 +1,7 @@
 -- Lists of calls: "each gets the state and stores that the one before it left"; and what of a list counts since the latest finished
 -- reset, in the words of the user's third demand.
 use Prim.Native.Nat.{ℕ}
-use mathlib.Core.Bool.{Bool, true, false, cond, not}
+use mathlib.Core.Bool.{Bool, false, cond, not}
 use mathlib.Core.List.{List, [], _∷_, _++_, map}
 use Rattle.seq.specs.Words.{every, from}
 use Rattle.numbers.specs.declared.Answer.{Answer}

@@ -1,6 +1,6 @@
 -- Document 01, "Reset and sense": the reset, and the bytes that Sense replies.
 use Prim.Native.Nat.{ℕ, _+_}
-use mathlib.Core.Bool.{Bool, true, false, not, _&&_}
+use mathlib.Core.Bool.{Bool, false, not, _&&_}
 use mathlib.Core.List.{List, [], _∷_, _++_}
 use Rattle.seq.specs.Words.{bit, zeros}
 use Rattle.numbers.specs.declared.Sense.{Sense}

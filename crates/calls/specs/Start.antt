@@ -1,6 +1,6 @@
 -- Document 01, "Calls" and "Numbers": Start, and what a refused Start hands back.
 use Prim.Native.Nat.{ℕ}
-use mathlib.Core.Bool.{Bool, true, false, cond, not, _&&_}
+use mathlib.Core.Bool.{false, cond, not, _&&_}
 use mathlib.Core.Option.{Option}
 use mathlib.Core.List.{List, [], _∷_}
 use lib.ListN.{replicate}
@@ -10,7 +10,6 @@ use Rattle.numbers.specs.declared.Refusal.the-variants.{Accepted, BadStore, Bad
 use Rattle.numbers.specs.Numbers.{noSense, isAccepted, only}
 use Rattle.form.specs.Form.{formLengths, pitchesOk, fcbSize}
 use Rattle.copies.specs.Copies.{pairSize}
-use Rattle.calls.specs.declared.Fixed.{Fixed}
 use Rattle.calls.specs.declared.State.{State}
 use Rattle.calls.specs.Core.{Stores, sizesOk, World}
 use Rattle.calls.specs.Reset.{fresh}

@@ -1,13 +1,13 @@
 -- What the checks of a translate table, an overlay sequence and a copy number leave true of an accepted record.
-use Prim.Native.Nat.{ℕ, _+_, _-_, _/_, _%_, _≤_}
+use Prim.Native.Nat.{ℕ, _-_, _/_, _%_, _≤_}
 use mathlib.Core.Path.{_≡_, refl}
-use mathlib.Core.Bool.{Bool, true, false, not, _&&_, _||_}
-use mathlib.Core.List.{List, [], _∷_, _++_, map}
+use mathlib.Core.Bool.{true, not, _&&_}
+use mathlib.Core.List.{List, [], _∷_, map}
 use native.Mathlib.Omega.{arith}
 use lib.ListN.{length, getD, replicate}
-use lib.Dec.{eqb, leb, ltb}
+use lib.Dec.{eqb, leb}
 use borrow.Author.Tests.{eqb-true, eqb-false, leb-true, ltb-false}
-use Rattle.seq.specs.Words.{any, when, firstOr, total, joined, zeros}
+use Rattle.seq.specs.Words.{any, when, firstOr, joined, zeros}
 use Rattle.seq.proofs.Laws.{and-left, and-right, or-right, not-true, not-false, passed}
 use Rattle.numbers.specs.declared.Cause.the-variants.{SequencePairs, SequenceCounts, NumberRecord}
 use Rattle.numbers.specs.declared.Checked.the-variants.{Sound, Faulty}

@@ -1,15 +1,15 @@
 -- What a legend load stores is read back as its segments, with their text translated, and 00 after them.
 use Prim.Native.Nat.{ℕ, zero, suc, _+_, _-_, _≤_, _<_}
 use mathlib.Core.Path.{_≡_, refl, sym, ap, _∙_}
-use mathlib.Core.Bool.{Bool, true, false, cond, not, _&&_, _||_}
+use mathlib.Core.Bool.{Bool, true, false, cond, _||_}
 use mathlib.Core.List.{List, [], _∷_, _++_, map, append-assoc, append-nil}
 use native.Mathlib.Omega.{arith}
-use lib.ListN.{length, getD, take, drop, length-append, length-take, length-drop, length-replicate, List·getD-append}
+use lib.ListN.{length, getD, take, drop, length-append, length-take, length-drop, List·getD-append}
 use lib.Seq.{take-at, drop-at, getD-take, length-take-le}
-use lib.Dec.{eqb, leb, ltb, lit<}
+use lib.Dec.{eqb, ltb, lit<}
 use borrow.Author.Tests.{ltb-false, le-ltb}
-use Rattle.seq.specs.Words.{any, empty, joined, when, firstOr, every, zeros, padded, zeroFrom}
-use Rattle.seq.proofs.Laws.{or-left, passed, zeros-all, padded-zero, length-padded}
+use Rattle.seq.specs.Words.{any, empty, joined, when, firstOr, every, zeros, padded}
+use Rattle.seq.proofs.Laws.{or-left, passed, padded-zero, length-padded}
 use Rattle.numbers.specs.declared.Cause.the-variants.{SegmentEnds, SegmentFields}
 use Rattle.numbers.specs.declared.Checked.the-variants.{Sound, Faulty}
 use Rattle.numbers.specs.Numbers.{isSound}

@@ -1,19 +1,19 @@
 -- Of forms control that its load takes: at most 144 bytes, and from 1 to 132 printable lines. The starting FCB is such.
 use Prim.Native.Nat.{ℕ, suc, _+_, _*_, _-_, _/_, _≤_, _<_, max}
 use mathlib.Core.Path.{_≡_, refl, sym, ap, _∙_}
-use mathlib.Core.Bool.{Bool, true, false, cond, not, _&&_, _||_, true≢false, false≢true, and-true}
+use mathlib.Core.Bool.{Bool, true, false, cond, _&&_, true≢false, and-true}
 use mathlib.Core.List.{List, [], _∷_, _++_, map}
 use native.Mathlib.Omega.{arith}
 use lib.ListN.{length, set, replicate, length-replicate, replicate-append-replicate}
 use lib.Dec.{eqb, leb, ltb, lit≤}
 use borrow.Author.Tests.{ltb-true, lt-ltb, leb-true, leb-false, eqb-true}
-use Rattle.seq.specs.Words.{any, all, when, firstOr, listed, total, zeros, padded}
+use Rattle.seq.specs.Words.{all, when, firstOr, listed, total, zeros, padded}
 use Rattle.seq.proofs.Laws.{and-left, and-right, or-left, or-right, not-false, listed-all, passed}
 use Rattle.numbers.specs.declared.Cause.the-variants.{FcbChannel, FcbSpacing, FcbSum, FcbEdge}
 use Rattle.numbers.specs.declared.Checked.the-variants.{Sound, Faulty}
 use Rattle.numbers.specs.Numbers.{isSound}
 use Rattle.numbers.proofs.Laws.{faulty, sound-is}
-use Rattle.form.specs.Form.{formLengths, upper, channel, unitsOf, units, runs, runsFrom, unitsTotal, between, printableFrom, printable, edgeFrom, badChannel, otherUpper, oddRun, fcbCheck, channelAt, startFcb, formsOf}
+use Rattle.form.specs.Form.{formLengths, upper, unitsOf, units, runs, runsFrom, unitsTotal, between, printableFrom, printable, edgeFrom, badChannel, otherUpper, oddRun, fcbCheck, channelAt, startFcb, formsOf}
 
 -- What the four checks found.
 pub record Passes (len : ℕ) (f : List ℕ) : Type 0 where

@@ -1,11 +1,11 @@
 -- Writing keeps the stores' sizes; and the manual's table of merges, row by row.
 use Prim.Native.Nat.{ℕ, suc, _+_, _*_, _-_, _≤_}
 use mathlib.Core.Path.{_≡_, refl, sym, ap, _∙_}
-use mathlib.Core.Bool.{Bool, true, false, cond}
+use mathlib.Core.Bool.{Bool, true, false}
 use mathlib.Core.List.{List, [], _∷_, _++_, map}
 use native.Mathlib.Omega.{arith}
-use lib.ListN.{length, take, drop, length-append, length-take, length-drop, length-replicate, length-map}
-use Rattle.seq.specs.Words.{all, when, firstOr}
+use lib.ListN.{length, length-append, length-take, length-drop, length-replicate, length-map}
+use Rattle.seq.specs.Words.{when, firstOr}
 use Rattle.seq.proofs.Laws.{cond-has}
 use Rattle.line.specs.declared.Causes.{Causes}
 use Rattle.line.specs.Line.{causeByte, lineWidth, slotSize, tableSize, putSlot, translated, lineCells, mergeRules, mergeCell, collides, mergeLine, lineAt, putLine, pageWritten, startTable, startTables}

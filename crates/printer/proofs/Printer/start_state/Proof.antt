@@ -1,5 +1,4 @@
 -- `Printer::start_state` is the state of a reset, field by field; its forms are those of `start_forms`.
-use mathlib.Core.Path.{_≡_}
 use borrow.Author.Needs.{needs}
 use Rattle.seq.specs.Words.{padded}
 use Rattle.line.specs.Line.{startSlots}
