@@ -78,7 +78,7 @@ pub acted : (k : Core) (b : ℕ) (r reply : List ℕ) → isAccepted (refusalOf 
 unfolding perform
 acted k b r reply e = rw (accepted-effect k (command b r reply) e) (shape k (decode b) r (taken k b r reply e .known))
 
--- "The answer names its kind of refusal."
+-- The answer's refusal is the one that the order gives.
 names-shape : {k : Core} {c : Command} {e : Effect} → Shape k c e → e .answer .refusal ≡ Accepted
 unfolding done
 names-shape (sets k′ x q e) = ap (λ (e : Effect). e .answer .refusal) e
@@ -98,7 +98,7 @@ names w c = go (isAccepted (refusalOf (w .core) c)) refl
     go true e = names-accepted (w .core) c e ∙ sym (accepted-is _ e)
     go false e = rw (refused-effect (w .core) c e)
 
--- "Lines moved is 0 but for spacing and skipping": it is that of the command's movement, whose lines are those entered or looked at, and
+-- Lines moved: that of the command's movement, which counts the lines entered or looked at, and
 -- only Write and Move have any.
 lines-shape : {k : Core} {c : Command} {e : Effect} → Shape k c e → e .answer .lines ≡ movement k c .lines
 unfolding done still
@@ -124,7 +124,7 @@ lines-of-others k (command b r reply) e = absurd (true≢false e)
 lines-of-others k (compose n out) e = cond-has (λ (x : Effect). x .answer .lines ≡ 0) (isAccepted (refusalOf k (compose n out))) (λ t. refl) (λ t. refl)
 lines-of-others k release e = cond-has (λ (x : Effect). x .answer .lines ≡ 0) (isAccepted (refusalOf k release)) (λ t. refl) (λ t. refl)
 
--- "An accepted Compose also gives copy number and overlay mark, which are 0 in every other answer."
+-- Copy number and overlay mark are 0 in every answer but that of an accepted Compose.
 abbrev NoCopy : Effect → Type 0
 NoCopy e = (e .answer .copy ≡ 0) × (e .answer .mark ≡ 0)
 
@@ -151,7 +151,7 @@ no-copy k release e = go (isAccepted (refusalOf k release)) refl
     go true a = rw (accepted-effect k release a) (refl, refl)
     go false a = refused-copy k release a
 
--- "Every accepted command but No-Op and Sense .. set the sense anew."
+-- Accepted commands but No-Op and Sense set the sense anew.
 anew-shape : {k : Core} {c : Command} {e : Effect} → Shape k c e → traitsOf c .quiet ≡ false → isAnew (e .sense) ≡ true
 unfolding done
 anew-shape (sets k′ x q e) n = rw e
@@ -161,7 +161,7 @@ pub sets-anew : (k : Core) (b : ℕ) (r reply : List ℕ) → isAccepted (refusa
     → isAnew (effect k (command b r reply) .sense) ≡ true
 sets-anew k b r reply e q = anew-shape (acted k b r reply e) q
 
--- "Page ready is 1 exactly when this very command completed a page": none waited before it, and one waits after it.
+-- Page ready exactly when this very command completed a page: none waited before it, and one waits after it.
 cond-waits : (t : Bool) (a b : Sheet) → a .waiting ≡ false → b .waiting ≡ true → cond t a b .waiting ≡ not t
 cond-waits true a b p q = p
 cond-waits false a b p q = q

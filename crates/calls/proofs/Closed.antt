@@ -1,4 +1,4 @@
--- "No calls after an accepted Start leave contents that get 9": each call keeps contents that a printer can have.
+-- After an accepted Start no call ever gets 9: each call keeps contents that a printer can have.
 use Prim.Native.Nat.{ℕ, zero, suc, _≤_}
 use mathlib.Core.Path.{_≡_, refl, ap, _∙_}
 use mathlib.Core.Bool.{Bool, true, false, not, _&&_}

@@ -99,7 +99,7 @@ pub allowed : map coreOk
 unfolding joined when firstOr every padded isSound formLengths pitchesListed pitchesOk unitsOf runsFrom runs unitsTotal printableFrom printable edgeFrom fcbCheck startFcb formsOf formsInRange startTable startTables startSlots slotsInRange pairsOf copiesOf sequenceCheck startCopies copiesInRange badHead cut segments legendCheck storedSegments legendsOk noLegends sizesOk linesNow fixedOk lineOk rangesOk dueOk markOk coreOk blankSheet noCells resetState resetStores fresh
 allowed = refl
 
--- "All cell, table .. bytes are allowed." (Legend text: `stored-ok` holds whatever the text is translated to.)
+-- All cell and table bytes are allowed. (So is all legend text: `stored-ok` holds whatever the text is translated to.)
 pub any-page : (k : Core) (p : List ℕ) → length p ≡ length (k .stores .page) → coreOk (withPage k p) ≡ coreOk k
 unfolding coreOk sizesOk
 any-page k p e = rw e
@@ -108,7 +108,7 @@ pub any-tables : (k : Core) (t : List ℕ) → length t ≡ length (k .stores .t
 unfolding coreOk sizesOk
 any-tables k t e = rw e
 
--- "Start 9 (sizes only), 10", on the numbers as they were passed.
+-- Start: 9 by sizes alone, then 10, on the numbers as they were passed.
 abbrev sized : ℕ → ℕ → ℕ → Stores
 sized a b c = record { page = replicate a 1; legends = replicate b 1; tables = replicate c 1 }
 

@@ -58,7 +58,7 @@ pages-alike v w (c ∷ cs) e =
 
 -- Two lists of calls, on printers v and w.
 pub record Alike (v w : World) (xs ys : List Call) : Type 0 where
-  -- "those commands and releases get equal answers", and each page that one of them completed has equal copies under equal numbers and marks
+  -- what counts got equal answers, and each page that one of them completed has equal copies under equal numbers and marks
   pub gave : sinceReset v xs .gave ≡ sinceReset w ys .gave
   -- the printers differ in their sense at most
   pub core : worldAfter v xs .core ≡ worldAfter w ys .core

@@ -25,13 +25,13 @@ use Rattle.calls.specs.Contents.{coreOk}
 use Rattle.calls.specs.Reset.{blankSheet, noCells, reset, senseSize}
 use Rattle.calls.specs.Effects.{Effect, nothing, refused, moveOf, standing, loadCheck, doCommand}
 
--- Command: a byte, a record, a reply buffer. Compose: a copy index from 1, and an output buffer. Release.
+-- Calls: a command has a byte, a record and a reply buffer; Compose a copy index from 1 and an output buffer.
 pub data Call : Type 0 where
   command : ℕ → List ℕ → List ℕ → Call
   compose : ℕ → List ℕ → Call
   release : Call
 
--- Number 2: "write record empty or over 204; load record over 8,192". "Control commands ignore their record", and immediate ones.
+-- Numbers, 2: the records that a write and a load cannot have. Control and immediate commands ignore theirs.
 abbrev pub badRecord : Command → List ℕ → Bool
 badRecord (Write m) r = empty r || ltb lineWidth (length r)
 badRecord (Move m) r = false
@@ -39,7 +39,7 @@ badRecord (Controls c) r = false
 badRecord (Loads l) r = ltb legendSize (length r)
 badRecord Unlisted r = false
 
--- Number 3: what a load's check finds.
+-- Numbers, 3: what a load's check finds.
 unfoldable pub checkOf : ℕ → Command → List ℕ → Checked
 checkOf len (Write m) r = Sound
 checkOf len (Move m) r = Sound
@@ -47,7 +47,7 @@ checkOf len (Controls c) r = Sound
 checkOf len (Loads l) r = loadCheck len l r
 checkOf len Unlisted r = Sound
 
--- Number 11: the movement that a command makes, with the pages that it completes.
+-- Numbers, 11: the movement that a command makes, with the pages that it completes.
 unfoldable pub movement : Core → Command → Moved
 movement k (Write m) = moveOf (k .state) m
 movement k (Move m) = moveOf (k .state) m
@@ -55,7 +55,7 @@ movement k (Controls c) = cond (controlTraits c .completes && started (k .state 
 movement k (Loads l) = standing k
 movement k Unlisted = standing k
 
--- "Command 9, 1, 4, 2, 5, 3, 8, 11."
+-- Numbers: the order of Command is 9, 1, 4, 2, 5, 3, 8, 11.
 abbrev pub commandTests : Core → Command → List ℕ → List ℕ → List (Option Refusal)
 commandTests k c r reply =
     when (not (coreOk k)) BadStore
@@ -68,7 +68,7 @@ commandTests k c r reply =
     ∷ when (ltb 1 (movement k c .pages)) TwoPages
     ∷ []
 
--- "Compose 9, 6, 7, 8."
+-- Numbers: the order of Compose is 9, 6, 7, 8.
 abbrev pub composeTests : Core → ℕ → List ℕ → List (Option Refusal)
 composeTests k n out =
     when (not (coreOk k)) BadStore
@@ -77,7 +77,7 @@ composeTests k n out =
     ∷ when (ltb (length out) (lineWidth * P (k .state))) TooShort
     ∷ []
 
--- "Release 9, 6."
+-- Numbers: the order of Release is 9, 6.
 abbrev pub releaseTests : Core → List (Option Refusal)
 releaseTests k = when (not (coreOk k)) BadStore ∷ when (not (k .state .sheet .waiting)) NoPage ∷ []
 
@@ -86,11 +86,11 @@ testsOf k (command b r reply) = commandTests k (decode b) r reply
 testsOf k (compose n out) = composeTests k n out
 testsOf k release = releaseTests k
 
--- "In a fixed order": the first test that holds gives the number.
+-- Numbers: the first test of the order that holds gives the number.
 unfoldable pub refusalOf : Core → Call → Refusal
 refusalOf k c = firstOr Accepted (testsOf k c)
 
--- "P lines of 204 cells into the output"; an accepted Compose gives copy number and overlay mark.
+-- Copies and legends: the copy with index n, composed. Calls: Compose answers its number and overlay mark.
 unfoldable pub composedCopy : Core → ℕ → List ℕ
 composedCopy k n = composed (k .stores .page) (k .stores .legends) (P (k .state)) (copyNumber (k .state .copies) n)
 
@@ -103,7 +103,7 @@ doCompose k n =
       front = λ s. composedCopy k n;
     }
 
--- "A completed page waits until Release, which sets all page bytes to 00"; a reset that is due is done.
+-- Movement, Reset and sense: Release empties the page and, where a reset is due, does it.
 unfoldable pub emptied : Core → Core
 emptied k = withPage (withState k (withSheet (k .state) (blankSheet (k .state .sheet .line)))) noCells
 
@@ -113,22 +113,23 @@ released k = cond (k .state .sheet .due) (reset (emptied k)) (emptied k)
 unfoldable pub doRelease : Core → Effect
 doRelease k = record { answer = only Accepted 0; core = released k; sense = keep; front = nothing }
 
+-- Calls: each accepted one.
 unfoldable pub perform : Core → Call → Effect
 perform k (command b r reply) = doCommand k (decode b) r
 perform k (compose n out) = doCompose k n
 perform k release = doRelease k
 
--- The byte count that a load check shows.
+-- Form and forms control: the byte count that the sum's load check shows.
 abbrev pub sizeOf : Call → ℕ
 sizeOf (command b r reply) = length r
 sizeOf (compose n out) = 0
 sizeOf release = 0
 
--- What a call does, by the core alone.
+-- Calls, Numbers: what a call does, by the core alone.
 unfoldable pub effect : Core → Call → Effect
 effect k c = let x = refusalOf k c in cond (isAccepted x) (perform k c) (refused k (sizeOf c) x)
 
--- The buffer that a call is lent to write, and it as the call returns: "bytes after that keep their values".
+-- Calls: the buffer that a call is lent to write, and bytes put over its front, those after them kept.
 abbrev pub lent : Call → List ℕ
 lent (command b r reply) = reply
 lent (compose n out) = out
@@ -137,7 +138,7 @@ lent release = []
 abbrev pub over : List ℕ → List ℕ → List ℕ
 over xs buffer = xs ++ drop (length xs) buffer
 
--- One call.
+-- Calls: one call, with all that it answers, writes and leaves.
 pub record Outcome : Type 0 where
   pub answer : Answer
   pub buffer : List ℕ

@@ -1,4 +1,5 @@
--- Document 01, "Commands": the command bytes. The load codes stand in the manual's command set table (GA26-1635-2).
+-- Document 01, "Commands". The load codes are those of the manual's command set table (GA26-1635-2). Every definition here is of that
+-- section.
 use Prim.Native.Nat.{ℕ, _/_, _%_}
 use mathlib.Core.Bool.{Bool, true, false, cond, _&&_}
 use mathlib.Core.List.{List, [], _∷_}
@@ -10,7 +11,7 @@ use Rattle.calls.specs.declared.Control.the-variants.{NoOp, SenseIo, Ini
 use Rattle.calls.specs.declared.Command.{Command}
 use Rattle.calls.specs.declared.Command.the-variants.{Write, Move, Controls, Loads, Unlisted}
 
--- The bytes that stand for one command each: writes, immediate, the controls, the five loads.
+-- The bytes that are listed one by one: writes, immediate spaces, the controls, the five loads.
 unfoldable pub codes : List (ℕ × Command)
 codes =
     (0x01, Write (Space 0)) ∷ (0x09, Write (Space 1)) ∷ (0x11, Write (Space 2)) ∷ (0x19, Write (Space 3))
@@ -26,7 +27,7 @@ unfoldable pub lookUp : List (ℕ × Command) → ℕ → Command
 lookUp [] b = Unlisted
 lookUp (c ∷ cs) b = let rest = lookUp cs b in cond (eqb (c .0) b) (c .1) rest
 
--- "Write and skip: binary 1nnnn001, nnnn from 1 to 12", and immediate 1nnnn011; so 83 is no skip but the translate load.
+-- Skips, with nnnn from 1 to 12: a write is 1nnnn001, immediate is 1nnnn011. So 83, where nnnn is 0, is no skip but the translate load.
 abbrev pub nnnn : ℕ → ℕ
 nnnn b = b / 8 % 16
 
@@ -36,8 +37,8 @@ skips b low = eqb (b / 128) 1 && eqb (b % 8) low && leb 1 (nnnn b) && leb (nnnn 
 unfoldable pub decode : ℕ → Command
 decode b = cond (skips b 1) (Write (Skip (nnnn b))) (cond (skips b 3) (Move (Skip (nnnn b))) (lookUp codes b))
 
--- What the rules say of some controls by name: No-Op and Sense (never 4, sense not set anew), Sense (replies), Clear and Initialize
--- (complete a started page), Initialize (resets).
+-- The controls that other sections single out: No-Op and Sense are quiet (number 4 and the setting of the sense pass them by), Sense
+-- replies, Clear and Initialize complete a started page, Initialize resets.
 pub record Traits : Type 0 where
   pub quiet : Bool
   pub replies : Bool
@@ -63,6 +64,7 @@ traitsOf (Controls c) = controlTraits c
 traitsOf (Loads l) = traits false false false false
 traitsOf Unlisted = traits false false false false
 
+-- Bytes that are no command, and the loads.
 abbrev pub isUnlisted : Command → Bool
 isUnlisted (Write m) = false
 isUnlisted (Move m) = false

@@ -1,4 +1,5 @@
--- Document 01, "Numbers": contents no printer has, clause by clause. Any sense is allowed, and so are all cell, table and legend text bytes.
+-- Document 01, "Numbers": contents no printer has, clause by clause in the paper's order. Every definition here is of that section. No
+-- clause looks at the sense, at a cell, at a table's byte or at legend text: all of these are allowed.
 use Prim.Native.Nat.{ℕ}
 use mathlib.Core.Bool.{Bool, not, _&&_, _||_}
 use mathlib.Core.List.{List, [], _∷_}
@@ -14,7 +15,7 @@ use Rattle.calls.specs.declared.Sheet.{Sheet}
 use Rattle.calls.specs.declared.State.{State}
 use Rattle.calls.specs.Core.{Core, sizesOk, P}
 
--- "A field outside its range (the current line is 1 to P)."
+-- Ranges of the fields: form and pitches are listed ones, the current line is one of the P.
 unfoldable pub fixedOk : Fixed → Bool
 fixedOk f = every (listed formLengths (f .length) ∷ pitchesOk (f .pitches) ∷ [])
 
@@ -31,22 +32,22 @@ rangesOk s =
     ∷ lineOk (P s) (s .sheet)
     ∷ [])
 
--- "A reset due with no page waiting."
+-- A reset is due only while a page waits.
 unfoldable pub dueOk : Sheet → Bool
 dueOk s = not (s .due) || s .waiting
 
--- "A line marked written while a page waits."
+-- No line is marked written while a page waits.
 unfoldable pub markOk : Sheet → Bool
 markOk s = not (s .written && s .waiting)
 
--- "Forms control or an overlay sequence that its load would refuse."
+-- Forms control, and the overlay sequence, are such as their loads would take.
 abbrev pub formsOk : State → Bool
 formsOk s = isSound (fcbCheck (s .fixed .length) (fcbNow (s .forms)))
 
 abbrev pub sequenceOk : State → Bool
 sequenceOk s = isSound (sequenceCheck (sequenceNow (s .copies)))
 
--- Number 9's tests: "lent store of wrong size", then the clauses in their order.
+-- All that number 9 asks: the sizes of the lent stores, then the clauses.
 abbrev pub clauses : Core → List Bool
 clauses k =
     sizesOk (k .stores)

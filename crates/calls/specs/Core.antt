@@ -1,4 +1,4 @@
--- Document 01, "Calls": what a call is handed. The structs of src/ are the state; the large parts are lent stores.
+-- Document 01, "Calls": what a call is handed. The structs of src/ are the state; the large parts are lent.
 use Prim.Native.Nat.{ℕ}
 use mathlib.Core.Bool.{Bool, not, _||_}
 use mathlib.Core.List.{List, [], _∷_}
@@ -15,7 +15,7 @@ use Rattle.copies.specs.Legends.{legendSize}
 use Rattle.calls.specs.declared.Sheet.{Sheet}
 use Rattle.calls.specs.declared.State.{State}
 
--- "Large parts are lent."
+-- Calls: the lent stores, and their sizes.
 pub record Stores : Type 0 where
   pub page : List ℕ
   pub legends : List ℕ
@@ -24,7 +24,7 @@ pub record Stores : Type 0 where
 unfoldable pub sizesOk : Stores → Bool
 sizesOk m = every (eqb (length (m .page)) pageSize ∷ eqb (length (m .legends)) legendSize ∷ eqb (length (m .tables)) tableSize ∷ [])
 
--- All but the sense; and all. No call but Sense reads the sense, so that a call's effect is a function of the core.
+-- Calls: all but the sense, and all. No call but Sense reads the sense, so that what a call does is a function of the core.
 pub record Core : Type 0 where
   pub state : State
   pub stores : Stores
@@ -33,7 +33,7 @@ pub record World : Type 0 where
   pub core : Core
   pub sense : Sense
 
--- Parts replaced.
+-- Parts of it replaced.
 abbrev pub withState : Core → State → Core
 withState k s = record { state = s; stores = k .stores }
 
@@ -61,13 +61,13 @@ withCopies s c = record { fixed = s .fixed; blocked = s .blocked; forms = s .for
 abbrev pub withSheet : State → Sheet → State
 withSheet s x = record { fixed = s .fixed; blocked = s .blocked; forms = s .forms; slots = s .slots; copies = s .copies; sheet = x }
 
--- The bytes of the printable lines, and P.
+-- Form and forms control: the bytes of the printable lines of the form as it stands, and P.
 unfoldable pub linesNow : State → List ℕ
 linesNow s = printable (s .fixed .length) (fcbNow (s .forms))
 
 abbrev pub P : State → ℕ
 P s = length (linesNow s)
 
--- "A page is started if the form isn't at line 1 or something is written on it": at line 1 that can only be line 1 itself.
+-- Movement: a started page has the form past line 1, or something written on it, which at line 1 can only be line 1 itself.
 unfoldable pub started : Sheet → Bool
 started s = not (eqb (s .line) 1) || s .written

@@ -31,8 +31,7 @@ use Rattle.calls.specs.declared.Command.the-variants.{Write, Move, Contr
 use Rattle.calls.specs.Core.{Core, withState, withPage, withLegends, withTables, withBlocked, withForms, withSlots, withCopies, withSheet, linesNow, started}
 use Rattle.calls.specs.Reset.{reset, senseBytes}
 
--- What a call answers and does: to the core, to the sense, and to the front of its lent buffer (Sense's reply, Compose's output), whose
--- later bytes keep their values.
+-- Calls: what a call answers and does: to the core, to the sense, and to the front of its lent buffer (Sense's reply, Compose's output).
 pub record Effect : Type 0 where
   pub answer : Answer
   pub core : Core
@@ -42,12 +41,13 @@ pub record Effect : Type 0 where
 abbrev pub nothing : Sense → List ℕ
 nothing s = []
 
--- "Otherwise nothing but the sense shown changes; no output byte is written." n is the record's byte count.
+-- Numbers: a refused call shows its number, status and sense, and does nothing else. n is the record's byte count.
 unfoldable pub refused : Core → ℕ → Refusal → Effect
 refused k n x = record { answer = only x (rowOf n x .status); core = k; sense = rowOf n x .sense; front = nothing }
 
--- An accepted command that sets the sense anew: from the core it leaves, its causes and its movement. Status 0C, plus 02 unit check
--- (a cause left, channel 9), plus 01 unit exception (channel 12). Sense byte 0 gets 08 with any cause left, and 01 for channel 9.
+-- Numbers, Movement, Writing a line: an accepted command that sets the sense anew, by the core it leaves, its causes and its movement. Unit
+-- check, 02, is for a cause that Block has not hidden and for channel 9; unit exception, 01, for channel 12. Sense byte 0 has 08 for such
+-- a cause, and 01 for channel 9.
 unfoldable pub done : Core → Causes → Moved → Effect
 done k c m =
     let b1 = causeByte (k .state .blocked) c in
@@ -67,7 +67,7 @@ done k c m =
       front = nothing;
     }
 
--- The sheet after a movement: a completed page waits, and the mark goes with the line that is left.
+-- Movement: the sheet after it. A completed page waits; the mark is the current line's, so it goes when another line is entered.
 unfoldable pub movedSheet : Bool → Sheet → Moved → Sheet
 movedSheet due s m =
     cond (eqb (m .pages) 0)
@@ -80,10 +80,11 @@ movedCore due k m = withState k (withSheet (k .state) (movedSheet due (k .state 
 unfoldable pub moveOf : State → Motion → Moved
 moveOf s m = moved (linesNow s) (s .sheet .line) m
 
+-- Movement: the immediate commands.
 unfoldable pub doMove : Core → Motion → Effect
 doMove k m = let mv = moveOf (k .state) m in done (movedCore false k mv) (orUnmatched noCauses (mv .missed)) mv
 
--- "Writing comes before movement": the record's cells on the current line, which is then marked ("a write of blanks counts as written").
+-- Writing a line, before movement: the record's cells go on the current line, and the line is marked, whatever they are.
 unfoldable pub marked : Sheet → Sheet
 marked s = record { line = s .line; written = true; waiting = s .waiting; due = s .due }
 
@@ -103,7 +104,7 @@ doWrite k m r =
     let mv = moveOf (k .state) m in
     done (movedCore false (written k r) mv) (orUnmatched (writeCauses k r) (mv .missed)) mv
 
--- The five loads: what each one's check finds, what it leaves, and its causes.
+-- Form and forms control, Copies and legends: the five loads: what each one's check finds, what it leaves, and its causes.
 unfoldable pub loadCheck : ℕ → Load → List ℕ → Checked
 loadCheck len Fcb r = fcbCheck len r
 loadCheck len TranslateTable r = tableCheck r
@@ -111,17 +112,18 @@ loadCheck len CopyModification r = legendCheck r
 loadCheck len OverlaySequence r = sequenceCheck r
 loadCheck len CopyNumber r = numberCheck r
 
--- "An accepted load puts the form at line 1."
+-- Form and forms control: an FCB load puts the form at line 1.
 unfoldable pub atLine1 : Sheet → Sheet
 atLine1 s = record { line = 1; written = s .written; waiting = s .waiting; due = s .due }
 
+-- Writing a line: the selected slot, loaded; another slot, selected.
 unfoldable pub slotLoaded : Slots → Slots
 slotLoaded s = record { loaded = set (s .loaded) (s .selected) true; selected = s .selected }
 
 unfoldable pub slotSelected : Slots → ℕ → Slots
 slotSelected s n = record { loaded = s .loaded; selected = n }
 
--- "The first 256 go in the selected slot"; "a load replaces all legends".
+-- Copies and legends: a translate load fills the selected slot with its first 256 bytes.
 unfoldable pub loaded : Core → Load → List ℕ → Core
 loaded k Fcb r = withState k (withSheet (withForms (k .state) (formsOf r)) (atLine1 (k .state .sheet)))
 loaded k TranslateTable r =
@@ -132,7 +134,7 @@ loaded k CopyModification r =
 loaded k OverlaySequence r = withState k (withCopies (k .state) (withSequence (k .state .copies) r))
 loaded k CopyNumber r = withState k (withCopies (k .state) (withReference (k .state .copies) (getD r 0 0)))
 
--- "Text is translated at load like a line, with the same checks (house)": as the first write on a line. The other loads raise nothing.
+-- Copies and legends: legend text is checked as a first write on a line is (house). The other loads raise nothing.
 unfoldable pub loadCauses : Core → Load → List ℕ → Causes
 loadCauses k Fcb r = noCauses
 loadCauses k TranslateTable r = noCauses
@@ -140,20 +142,20 @@ loadCauses k CopyModification r = lineCauses (k .state .fixed .pitches) (k .stat
 loadCauses k OverlaySequence r = noCauses
 loadCauses k CopyNumber r = noCauses
 
--- no movement
+-- Movement: none.
 abbrev pub standing : Core → Moved
 standing k = still (k .state .sheet .line)
 
 unfoldable pub doLoad : Core → Load → List ℕ → Effect
 doLoad k l r = done (loaded k l r) (loadCauses k l r) (standing k)
 
--- "Clear completes a started page and puts the form at line 1; else it does nothing." "Initialize on a page not started resets at once.
--- On a started page it completes it as Clear does, and the reset is done by its Release."
+-- Movement, Reset and sense: Clear and Initialize complete a started page, Initialize with a reset due at its Release. On a page not
+-- started Clear does nothing, and Initialize resets at once.
 unfoldable pub completing : Core → Bool → Core → Effect
 completing k due unstarted =
     cond (started (k .state .sheet)) (done (movedCore due k toTop) noCauses toTop) (done unstarted noCauses (standing k))
 
--- No-Op and Sense do not set the sense anew; Sense "replies 24 bytes and then clears".
+-- Reset and sense: No-Op keeps the sense; Sense replies it, then clears it.
 abbrev pub quietly : Core → SenseStep → (Sense → List ℕ) → Effect
 quietly k s f = record { answer = only Accepted (rowOf 0 Accepted .status); core = k; sense = s; front = f }
 
@@ -166,7 +168,7 @@ doControl k Block = done (withState k (withBlocked (k .state) true)) noCauses (s
 doControl k Allow = done (withState k (withBlocked (k .state) false)) noCauses (standing k)
 doControl k (Select n) = done (withState k (withSlots (k .state) (slotSelected (k .state .slots) n))) noCauses (standing k)
 
--- A byte not among the commands is refused before it comes here, with this same effect.
+-- Commands: each accepted one. A byte that is none is refused before it comes here, with this same effect.
 unfoldable pub doCommand : Core → Command → List ℕ → Effect
 doCommand k (Write m) r = doWrite k m r
 doCommand k (Move m) r = doMove k m

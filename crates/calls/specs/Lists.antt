@@ -1,5 +1,4 @@
--- Lists of calls: "each gets the state and stores that the one before it left"; and what of a list counts since the latest finished
--- reset, in the words of the user's third demand.
+-- Document 01, "Calls": lists of calls; and the words of the user's third demand: what of a list counts, since the latest finished reset.
 use Prim.Native.Nat.{ℕ}
 use mathlib.Core.Bool.{Bool, false, cond, not}
 use mathlib.Core.List.{List, [], _∷_, _++_, map}
@@ -13,7 +12,7 @@ use Rattle.calls.specs.Core.{Core, World, started}
 use Rattle.calls.specs.Commands.{decode, traitsOf}
 use Rattle.calls.specs.Calls.{Call, command, compose, release, refusalOf, composedCopy, effect, Outcome, step}
 
--- What each call of a list gives, and what the list leaves.
+-- Calls: what each call of a list gives, when it gets what the one before it left; and what the last one leaves.
 unfoldable pub outcomes : World → List Call → List Outcome
 outcomes w [] = []
 outcomes w (c ∷ cs) = step w c ∷ outcomes (step w c .world) cs
@@ -22,13 +21,13 @@ unfoldable pub worldAfter : World → List Call → World
 worldAfter w [] = w
 worldAfter w (c ∷ cs) = worldAfter (step w c .world) cs
 
--- "The accepted commands and releases .., No-Op and Sense left out."
+-- Demand 3: what counts are accepted commands, but not No-Op and Sense, and accepted releases.
 unfoldable pub counts : Core → Call → Bool
 counts k (command b r reply) = every (isAccepted (refusalOf k (command b r reply)) ∷ not (traitsOf (decode b) .quiet) ∷ [])
 counts k (compose n out) = false
 counts k release = isAccepted (refusalOf k release)
 
--- "The same": a command by its byte and by its record, unless it ignores that. The reply buffer is no part of it.
+-- Demand 3: what makes two of them the same: a command's byte and its record, unless it ignores that, and not its reply buffer.
 pub data Deed : Type 0 where
   commanded : ℕ → List ℕ → Deed
   wasReleased : Deed
@@ -45,14 +44,14 @@ deedOf (command b r reply) = commanded b (readOf (decode b) r)
 deedOf (compose n out) = wasReleased
 deedOf release = wasReleased
 
--- A finished reset: Initialize on a page not started, or the Release that does a reset which is due.
+-- Demand 3: what finishes a reset: Initialize on a page not started, or the Release that does a reset which is due.
 unfoldable pub finishesReset : Core → Call → Bool
 finishesReset k (command b r reply) =
     every (counts k (command b r reply) ∷ traitsOf (decode b) .resets ∷ not (started (k .state .sheet)) ∷ [])
 finishesReset k (compose n out) = false
 finishesReset k release = every (counts k release ∷ k .state .sheet .due ∷ [])
 
--- The copies of a page, each with its copy number and overlay mark.
+-- Demand 3: the copies of a page, each with its copy number and overlay mark.
 pub record Copy : Type 0 where
   pub number : ℕ
   pub mark : ℕ
@@ -64,7 +63,7 @@ copyAt k n = record { number = copyNumber (k .state .copies) n; mark = copyMark 
 unfoldable pub copiesOfPage : Core → List Copy
 copiesOfPage k = map (copyAt k) (from 1 (copyCount (k .state .copies)))
 
--- What a call gave: its answer, and all copies of the page that it completed, if it did.
+-- Demand 3: what a call gave: its answer, and all copies of the page that it completed, if it did.
 pub record Given : Type 0 where
   pub answer : Answer
   pub page : List Copy
@@ -72,8 +71,8 @@ pub record Given : Type 0 where
 unfoldable pub given : Core → Call → Given
 given k c = let e = effect k c in record { answer = e .answer; page = cond (e .answer .ready) (copiesOfPage (e .core)) [] }
 
--- The data-check switch at the latest finished reset, and what counts since, with what each gave. The call that finishes a reset is
--- the reset, and not since it.
+-- Demand 3: the data-check switch at the latest finished reset, and what counts since, with what each gave. The call that finishes a reset
+-- is the reset, and not since it.
 pub record Since : Type 0 where
   pub switch : Bool
   pub deeds : List Deed
@@ -92,6 +91,6 @@ unfoldable pub sinceOver : Core → Since → List Call → Since
 sinceOver k s [] = s
 sinceOver k s (c ∷ cs) = sinceOver (effect k c .core) (note k s c) cs
 
--- "A start is one": from a printer just started.
+-- Demand 3: a start counts as a finished reset; w is a printer just started.
 unfoldable pub sinceReset : World → List Call → Since
 sinceReset w cs = sinceOver (w .core) (sinceNow (w .core .state .blocked)) cs

@@ -1,4 +1,4 @@
--- Document 01, "Reset and sense": the reset, and the bytes that Sense replies.
+-- Document 01, "Reset and sense". Every definition here is of that section.
 use Prim.Native.Nat.{ℕ, _+_}
 use mathlib.Core.Bool.{Bool, false, not, _&&_}
 use mathlib.Core.List.{List, [], _∷_, _++_}
@@ -13,15 +13,15 @@ use Rattle.calls.specs.declared.Sheet.{Sheet}
 use Rattle.calls.specs.declared.State.{State}
 use Rattle.calls.specs.Core.{Stores, Core, started}
 
--- Nothing written, nothing waiting, the form at a line.
+-- A sheet with nothing written and nothing waiting, and a page with nothing on it.
 unfoldable pub blankSheet : ℕ → Sheet
 blankSheet l = record { line = l; written = false; waiting = false; due = false }
 
 unfoldable pub noCells : List ℕ
 noCells = zeros pageSize
 
--- "Starting FCB, table 0, selection, sequence, copy number; slots 1 to 3 not loaded and legends empty, both zeroed; form at line 1. The
--- check switch stays." Of what was before, only what Start fixed, the switch and the page's bytes are looked at.
+-- The reset. Of what was before, it looks at what Start fixed, at the check switch, which stays, and at the page's bytes, and at nothing
+-- else.
 unfoldable pub resetState : Fixed → Bool → State
 resetState f blocked =
     record { fixed = f; blocked = blocked; forms = formsOf (startFcb (f .length)); slots = startSlots; copies = startCopies; sheet = blankSheet 1 }
@@ -36,8 +36,7 @@ reset k = record { state = resetState (k .state .fixed) (k .state .blocked); sto
 unfoldable pub fresh : Fixed → Bool → Core
 fresh f blocked = record { state = resetState f blocked; stores = resetStores noCells }
 
--- "Sense replies 24 bytes. Byte 3 is 80, plus 40 when no page is started or waiting, plus 20 when Block is on. All others are 0 but
--- 0, 1, 2, 22, 23."
+-- The 24 bytes that Sense replies: five that are kept, byte 3 as the printer stands, and zeros.
 abbrev pub senseSize : ℕ
 senseSize = 24
 

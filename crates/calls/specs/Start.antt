@@ -15,7 +15,7 @@ use Rattle.calls.specs.Core.{Stores, sizesOk, World}
 use Rattle.calls.specs.Reset.{fresh}
 use Rattle.calls.specs.Calls.{Outcome}
 
--- "Start: a form length and four module pitches", as the numbers that were passed. "Order: Start 9 (sizes only), 10."
+-- Numbers: the order of Start is 9, by sizes alone, then 10. Form length and pitches are the numbers as they were passed.
 abbrev pub startTests : ℕ → List ℕ → Stores → List (Option Refusal)
 startTests len ps m =
     when (not (sizesOk m)) BadStore
@@ -25,11 +25,11 @@ startTests len ps m =
 unfoldable pub startRefusal : ℕ → List ℕ → Stores → Refusal
 startRefusal len ps m = firstOr Accepted (startTests len ps m)
 
--- "Start sets the page and legends to zeros and table slots as after Initialize", "clears the sense too", "checks allowed".
+-- Calls, Reset and sense: what an accepted Start leaves: all as a reset leaves it, the page empty, the checks allowed, the sense clear.
 unfoldable pub startWorld : ℕ → List ℕ → World
 startWorld len ps = record { core = fresh (record { length = len; pitches = ps }) false; sense = noSense }
 
--- "A refused Start hands back a state of all zeros .. and writes no other lent store."
+-- Numbers: what a refused Start hands back: a state of all zeros, beside the stores as they were.
 unfoldable pub noState : State
 noState =
     record {
@@ -44,7 +44,7 @@ noState =
 unfoldable pub noPrinter : Stores → World
 noPrinter m = record { core = record { state = noState; stores = m }; sense = noSense }
 
--- Status 00, accepted or not.
+-- Calls: Start, with status 00, accepted or not.
 unfoldable pub startOutcome : ℕ → List ℕ → Stores → Outcome
 startOutcome len ps m =
     let x = startRefusal len ps m in

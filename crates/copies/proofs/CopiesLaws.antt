@@ -37,7 +37,7 @@ number-some r e =
     let one : (eqb (length r) 1 && not (eqb (getD r 0 0) 0)) ≡ true = not-false _ (passed _ _ faulty e .0) in
     omega (arith, eqb-false (getD r 0 0) 0 (not-true _ (and-right (eqb (length r) 1) _ one)))
 
--- "Numbers run up to 509."
+-- Copy numbers are at most 509, and the last one is.
 pub number-most : (c : Copies) (k : ℕ) → c .reference ≤ 255 → k ≤ 255 → copyNumber c k ≤ 509
 unfolding copyNumber
 number-most c k r h = omega arith

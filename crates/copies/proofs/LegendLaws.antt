@@ -200,7 +200,7 @@ pub legend-table : map legendCheck
 unfolding legendCheck segments cut badHead joined firstOr when
 legend-table = refl
 
--- "A cell is the last segment's text that covers it": a last segment that covers it shows its text, one that does not leaves what the
+-- The last segment that covers a cell shows there: a last one that covers it shows its text, one that does not leaves what the
 -- segments before it show, and with none the page's cell is left.
 module _ (number line position : ℕ) where
   shown-more : (gs : List Segment) (g : Segment) (c : ℕ)

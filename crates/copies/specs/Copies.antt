@@ -1,4 +1,5 @@
--- Document 01, "Copies and legends": the translate table, the overlay sequence and the copy number.
+-- Document 01, "Copies and legends": the loads of translate table, overlay sequence and copy number. Every definition here is of that
+-- section.
 use Prim.Native.Nat.{ℕ, _+_, _-_, _/_, _%_}
 use mathlib.Core.Bool.{Bool, cond, not, _&&_, _||_}
 use mathlib.Core.List.{List, [], _∷_, map}
@@ -11,11 +12,11 @@ use Rattle.numbers.specs.declared.Checked.the-variants.{Sound, Faulty}
 use Rattle.line.specs.Line.{slotSize}
 use Rattle.copies.specs.declared.Copies.{Copies}
 
--- "Load translate: under 256 bytes is cause byte 1 80."
+-- Load translate: a record of fewer than 256 bytes is too short.
 unfoldable pub tableCheck : List ℕ → Checked
 tableCheck r = firstOr Sound (when (ltb (length r) slotSize) (Faulty TableShort) ∷ [])
 
--- "Overlay sequence: pairs of copies and overlay mark 0 or 1 (house)."
+-- An overlay sequence as pairs of copies and overlay mark, and how many copies it asks for.
 unfoldable pub pairsOf : List ℕ → List (ℕ × ℕ)
 pairsOf [] = []
 pairsOf (n ∷ []) = []
@@ -24,7 +25,8 @@ pairsOf (n ∷ m ∷ r) = (n, m) ∷ pairsOf r
 unfoldable pub copiesOf : List ℕ → ℕ
 copiesOf r = total (map (λ p. p .0) (pairsOf r))
 
--- "1 to 8 whole pairs, else byte 1 80, judged first; a zero count, other mark or total above 255 gives byte 2 10."
+-- Load overlay sequence: first that there are 1 to 8 whole pairs, then that no count is zero, no mark other than 0 or 1 (house), and that
+-- the copies are at most 255.
 abbrev pub wholePairs : List ℕ → Bool
 wholePairs r = eqb (length r % 2) 0 && leb 1 (length r / 2) && leb (length r / 2) 8
 
@@ -38,16 +40,16 @@ sequenceCheck r =
     ∷ when (any badPair (pairsOf r) || ltb 255 (copiesOf r)) (Faulty SequenceCounts)
     ∷ [])
 
--- "Copy k has .. the mark of its pair"; k counts from 1.
+-- The mark of the pair that copy k, from 1, falls to.
 unfoldable pub markIn : ℕ → List (ℕ × ℕ) → ℕ
 markIn k [] = 0
 markIn k (p ∷ ps) = let later = markIn (k - p .0) ps in cond (leb k (p .0)) (p .1) later
 
--- "Copy number: exactly one byte, not zero, else byte 1 80 (house)."
+-- Load copy number: one byte that is not zero (house).
 unfoldable pub numberCheck : List ℕ → Checked
 numberCheck r = firstOr Sound (when (not (eqb (length r) 1 && not (eqb (getD r 0 0) 0))) (Faulty NumberRecord) ∷ [])
 
--- What the printer keeps of both.
+-- What the printer keeps of sequence and number: the record's bytes with 00 after them, their count, and the reference.
 abbrev pub pairSize : ℕ
 pairSize = 16
 
@@ -60,11 +62,11 @@ withSequence c r = record { pairs = padded pairSize r; count = length r; referen
 unfoldable pub withReference : Copies → ℕ → Copies
 withReference c n = record { pairs = c .pairs; count = c .count; reference = n }
 
--- Start: one copy, mark 0; copy number 1.
+-- What it starts with: one copy with mark 0, reference 1.
 unfoldable pub startCopies : Copies
 startCopies = record { pairs = padded pairSize (1 ∷ 0 ∷ []); count = 2; reference = 1 }
 
--- "Copy k has number reference + k - 1 and the mark of its pair. Numbers run up to 509 and are not reduced (house)."
+-- The copies of a page: how many, and the number and mark of copy k. A number is not reduced, so it can be as large as 509 (house).
 unfoldable pub copyCount : Copies → ℕ
 copyCount c = copiesOf (sequenceNow c)
 
@@ -74,6 +76,6 @@ copyNumber c k = c .reference + k - 1
 unfoldable pub copyMark : Copies → ℕ → ℕ
 copyMark c k = markIn k (pairsOf (sequenceNow c))
 
--- a count within the array, 00 after it, and a reference that is not zero
+-- The range of these fields: a count within the array, 00 after it, and a reference that is not zero.
 unfoldable pub copiesInRange : Copies → Bool
 copiesInRange c = every (leb (c .count) pairSize ∷ zeroFrom (c .count) (c .pairs) ∷ leb 1 (c .reference) ∷ [])

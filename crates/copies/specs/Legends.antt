@@ -1,4 +1,5 @@
--- Document 01, "Copies and legends": copy modification, and the composed copy.
+-- Document 01, "Copies and legends": copy modification, stored legends, and the composed copy. Every definition here is of that section,
+-- but for the store's size, which is of "Calls".
 use Prim.Native.Nat.{ℕ, zero, suc, _+_, _*_, _-_, _/_, _%_}
 use mathlib.Core.Bool.{Bool, false, cond, not, _&&_, _||_}
 use mathlib.Core.Option.{Option}
@@ -15,8 +16,7 @@ use Rattle.line.specs.Line.{lineWidth}
 abbrev pub legendSize : ℕ
 legendSize = 8192
 
--- "Segments of six bytes and text: first copy, copies, first line, lines, first position, positions; text of exactly that many
--- positions, used on each line."
+-- A segment, in the order of its six bytes, then its text, which has as many bytes as the segment has positions.
 pub record Segment : Type 0 where
   pub firstCopy : ℕ
   pub copies : ℕ
@@ -41,15 +41,15 @@ segmentOf s =
       text = take (getD s 5 0) (drop headSize s);
     }
 
--- How many bytes the segment has that begins s.
+-- How many bytes the segment has that stands at the front of s.
 abbrev pub segmentLength : List ℕ → ℕ
 segmentLength s = headSize + getD s 5 0
 
--- "A zero among the six, or first position plus positions outside 2 to 205."
+-- What the six bytes may not say.
 unfoldable pub badHead : List ℕ → Bool
 badHead s = any (λ b. eqb b 0) (take headSize s) || not (leb 2 (getD s 4 0 + getD s 5 0) && leb (getD s 4 0 + getD s 5 0) 205)
 
--- An end inside the six bytes, what the six say, an end inside the text: "six complete bytes are judged before their text".
+-- The tests of a segment in order: the record ends inside the six bytes; they say what they may not; it ends inside the text.
 abbrev pub segmentTests : List ℕ → List (Option Checked)
 segmentTests s =
     when (ltb (length s) headSize) (Faulty SegmentEnds)
@@ -67,29 +67,31 @@ cut ends (suc n) (b ∷ bs) =
     let rest = cut ends n (drop size (b ∷ bs)) in
     cond (ends b) [] (take size (b ∷ bs) ∷ rest)
 
--- "Segments are taken in record order."
+-- The segments of a record.
 unfoldable pub segments : List ℕ → List (List ℕ)
 segments r = cut (λ b. false) (length r) r
 
--- "The first fault is reported. An end inside a segment, or an empty record, is byte 1 80."
+-- Load copy modification: the first fault, taking segments in record order; an empty record counts as an end inside one.
 unfoldable pub legendCheck : List ℕ → Checked
 legendCheck r = firstOr Sound (when (empty r) (Faulty SegmentEnds) ∷ joined (map segmentTests (segments r)))
 
--- "Text is translated at load like a line (house)": f is the translation. "The legend bytes after the last segment are 00."
+-- What an accepted load stores: each segment with its text translated, here by f (house), and 00 after the last. A load leaves nothing of
+-- the legends before it.
 abbrev pub retext : (List ℕ → List ℕ) → List ℕ → List ℕ
 retext f s = take headSize s ++ f (drop headSize s)
 
 unfoldable pub storedLegends : (List ℕ → List ℕ) → List ℕ → List ℕ
 storedLegends f r = padded legendSize (joined (map (retext f) (segments r)))
 
+-- All text of a record, for its data checks.
 unfoldable pub legendText : List ℕ → List ℕ
 legendText r = joined (map (drop headSize) (segments r))
 
--- "Stored legends end where a segment would begin with 00, or at byte 8,192."
+-- Stored legends: their segments end before a first byte of 00, or at the end of the store.
 unfoldable pub storedSegments : List ℕ → List (List ℕ)
 storedSegments l = cut (λ b. eqb b 0) (length l) l
 
--- Not "legends that are not empty and that their load would refuse, or a byte other than 00 after them".
+-- Legends that a printer can have: none, or such as their load would take; and 00 after them.
 unfoldable pub legendsOk : List ℕ → Bool
 legendsOk l =
     let r = joined (storedSegments l) in
@@ -98,7 +100,7 @@ legendsOk l =
 unfoldable pub noLegends : List ℕ
 noLegends = zeros legendSize
 
--- x is one of the n numbers from a on
+-- Whether a segment covers a copy number, line and position; x is `among` the n numbers from a on.
 abbrev pub among : ℕ → ℕ → ℕ → Bool
 among a n x = leb a x && ltb x (a + n)
 
@@ -108,8 +110,7 @@ covers g number line position =
     && among (g .firstLine) (g .lines) line
     && among (g .firstPosition) (g .positions) position
 
--- "A cell is the last segment's text that covers its copy number, line and position (house), blanks included; otherwise the page's
--- cell", here c.
+-- The cell at a place of a copy: the text of the last segment that covers it, be it a blank (house), or the page's cell c.
 unfoldable pub shown : List Segment → ℕ → ℕ → ℕ → ℕ → ℕ
 shown [] number line position c = c
 shown (g ∷ gs) number line position c =
@@ -120,6 +121,6 @@ unfoldable pub copyFrom : List Segment → ℕ → ℕ → List ℕ → List ℕ
 copyFrom gs number i [] = []
 copyFrom gs number i (c ∷ cs) = shown gs number (i / lineWidth + 1) (i % lineWidth + 1) c ∷ copyFrom gs number (suc i) cs
 
--- "Composed copy: P lines of 204 cells", for the copy with this number.
+-- The composed copy with this number: the cells of the page's P lines.
 unfoldable pub composed : List ℕ → List ℕ → ℕ → ℕ → List ℕ
 composed page legends P number = copyFrom (map segmentOf (storedSegments legends)) number 0 (take (lineWidth * P) page)

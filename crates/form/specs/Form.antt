@@ -1,4 +1,4 @@
--- Document 01, "Form and forms control".
+-- Document 01, "Form and forms control". Every definition here is of that section.
 use Prim.Native.Nat.{ℕ, _+_, _-_, _/_, _%_}
 use mathlib.Core.Bool.{Bool, cond, not, _&&_, _||_}
 use mathlib.Core.List.{List, [], _∷_, _++_, map}
@@ -10,26 +10,26 @@ use Rattle.numbers.specs.declared.Checked.{Checked}
 use Rattle.numbers.specs.declared.Checked.the-variants.{Sound, Faulty}
 use Rattle.form.specs.declared.Forms.{Forms}
 
--- Lengths in 24ths of an inch: common-use, then ISO.
+-- The form lengths in 24ths of an inch, which are our units: common-use, then ISO.
 unfoldable pub formLengths : List ℕ
 formLengths = 84 ∷ 132 ∷ 168 ∷ 204 ∷ 264 ∷ 72 ∷ 96 ∷ 144 ∷ 192 ∷ 240 ∷ 288 ∷ []
 
--- Pitches: 0 absent, 10, 12, 15.
+-- The pitches of a module; 0 is absent.
 unfoldable pub pitchesListed : List ℕ
 pitchesListed = 0 ∷ 10 ∷ 12 ∷ 15 ∷ []
 
--- Each module's pitch is listed, and module 0 is fitted.
+-- Every module has a listed pitch, and module 0 is not absent.
 unfoldable pub pitchesOk : List ℕ → Bool
 pitchesOk ps = all (listed pitchesListed) ps && not (eqb (getD ps 0 0) 0)
 
--- One FCB byte per line: its upper half is the spacing, its lower half the channel, 0 for none.
+-- An FCB byte stands for a line: spacing in its upper half, channel in its lower, 0 if it has none.
 abbrev pub upper : ℕ → ℕ
 upper b = b / 16
 
 abbrev pub channel : ℕ → ℕ
 channel b = b % 16
 
--- Upper half 0, 1, 3: 4, 3, 2 units of a 24th inch a line; 0 for another.
+-- 6, 8 or 12 lines per inch are 4, 3 or 2 units a line; an upper half that means none of these gets 0.
 unfoldable pub unitsOf : ℕ → ℕ
 unitsOf u = cond (eqb u 0) 4 (cond (eqb u 1) 3 (cond (eqb u 3) 2 0))
 
@@ -72,20 +72,21 @@ unfoldable pub edgeFrom : ℕ → ℕ → List ℕ → List ℕ
 edgeFrom len off [] = []
 edgeFrom len off (b ∷ bs) = let rest = edgeFrom len (off + units b) bs in cond (between len off) rest (b ∷ rest)
 
--- The four checks, one for each number of the paper's list.
+-- The checks of the paper's list of four, by name.
 abbrev pub badChannel : List ℕ → Bool
 badChannel f = any (λ b. ltb 12 (channel b)) f
 
 abbrev pub otherUpper : List ℕ → Bool
 otherUpper f = any (λ b. eqb (units b) 0) f
 
--- (house)
+-- (house: a run is taken from change to change)
 abbrev pub oddRun : List ℕ → Bool
 oddRun f = any (λ n. not (eqb (n % halfInch) 0)) (runs f)
 
 abbrev pub edgeChannel : ℕ → List ℕ → Bool
 edgeChannel len f = any (λ b. not (eqb (channel b) 0)) (edgeFrom len 0 f)
 
+-- All four, in the order of the list.
 unfoldable pub fcbCheck : ℕ → List ℕ → Checked
 fcbCheck len f =
     firstOr Sound
@@ -99,7 +100,7 @@ fcbCheck len f =
 unfoldable pub channelAt : List ℕ → ℕ → ℕ
 channelAt ls line = channel (getD ls (line - 1) 0)
 
--- The starting FCB is 6 lines per inch with channel 1 at line 1: three lines lie in the first half inch.
+-- The starting FCB: 6 lines per inch throughout, channel 1 at line 1, before which three lines lie in the first half inch.
 unfoldable pub startFcb : ℕ → List ℕ
 startFcb len = zeros 3 ++ 1 ∷ zeros (len / 4 - 4)
 

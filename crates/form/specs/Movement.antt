@@ -1,4 +1,5 @@
--- Document 01, "Movement": the lines that a space enters and a skip looks at, and what is reported of them.
+-- Document 01, "Movement": the lines that a space enters and a skip looks at, and what is reported of them. Every definition here is of
+-- that section.
 use Prim.Native.Nat.{ℕ, zero, suc, _+_, _-_}
 use mathlib.Core.Bool.{Bool, false, cond, not}
 use mathlib.Core.List.{List, [], _∷_, _++_, map}
@@ -18,16 +19,16 @@ pub record Spot : Type 0 where
 abbrev pub spot : ℕ → ℕ → Spot
 spot f l = record { form = f; line = l }
 
--- "Space n goes one line at a time. Stepping past P completes the page, enters line 1 of the next form and ends the spacing."
+-- The lines that spacing n from line c enters, one at a time; the step past P enters line 1 of the next form and is the last.
 unfoldable pub entered : ℕ → ℕ → ℕ → List Spot
 entered P c zero = []
 entered P c (suc n) = let further = entered P (suc c) n in cond (ltb c P) (spot 0 (suc c) ∷ further) (spot 1 1 ∷ [])
 
--- "Skip looks at the line after the current one, on to P, then from line 1 of the next form up to the current number."
+-- The lines that a skip from line c looks at, as long as none matches: those after c to P, then those of the next form from 1 up to c.
 unfoldable pub round : ℕ → ℕ → List Spot
 round P c = map (spot 0) (from (c + 1) (P - c)) ++ map (spot 1) (from 1 c)
 
--- up to the first that matches, this one included
+-- A walk up to its first line that matches, with that line.
 unfoldable pub upToFirst : (Spot → Bool) → List Spot → List Spot
 upToFirst f [] = []
 upToFirst f (s ∷ ss) = s ∷ cond (f s) [] (upToFirst f ss)
@@ -36,15 +37,15 @@ upToFirst f (s ∷ ss) = s ∷ cond (f s) [] (upToFirst f ss)
 abbrev pub has : List ℕ → ℕ → Spot → Bool
 has ls channel s = eqb (channelAt ls (s .line)) channel
 
--- Lines moved is the number of lines entered. Channel 9 or 12 on any of them is reported, the next form's line 1 too (house).
+-- Spacing: its lines moved are those entered; channels 9 and 12 are reported of every one, line 1 of the next form too (house).
 unfoldable pub spaced : List ℕ → ℕ → ℕ → Moved
 spaced ls c n =
     let w = entered (length ls) c n in
     let to = lastOr (spot 0 c) w in
     record { lines = length w; pages = to .form; line = to .line; nine = any (has ls 9) w; twelve = any (has ls 12) w; missed = false }
 
--- Lines moved is the number of lines looked at, the match included. With no match the page is completed and line 1 taken.
--- A skip reports neither 9 nor 12. An immediate skip searches the same way (house).
+-- Skipping: its lines moved are those looked at, the match among them. Without one the page is completed and line 1 taken. A skip reports
+-- neither 9 nor 12, and an immediate one is no different (house).
 unfoldable pub skipped : List ℕ → ℕ → ℕ → Moved
 skipped ls c channel =
     let r = round (length ls) c in
@@ -53,11 +54,12 @@ skipped ls c channel =
     let to = cond found (lastOr (spot 0 c) w) (spot 1 1) in
     record { lines = length w; pages = to .form; line = to .line; nine = false; twelve = false; missed = not found }
 
+-- Either motion.
 unfoldable pub moved : List ℕ → ℕ → Motion → Moved
 moved ls c (Space n) = spaced ls c n
 moved ls c (Skip channel) = skipped ls c channel
 
--- No movement, and that of a page that Clear or Initialize completes: the form goes to line 1 of the next.
+-- No movement; and what Clear makes of a started page: it is completed, with the form at line 1 of the next.
 unfoldable pub still : ℕ → Moved
 still c = record { lines = 0; pages = 0; line = c; nine = false; twelve = false; missed = false }
 

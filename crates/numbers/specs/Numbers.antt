@@ -1,4 +1,4 @@
--- Document 01, "Numbers": the paper's table, a row a line, and which row a call gets.
+-- Document 01, "Numbers": the table, a row a line. Every definition here is of that section.
 use Prim.Native.Nat.{ℕ, _/_, _%_}
 use mathlib.Core.Bool.{Bool, true, false}
 use mathlib.Core.Option.{Option, none, some}
@@ -19,7 +19,7 @@ sense3 a b c = record { b0 = a; b1 = b; b2 = c; b22 = 0; b23 = 0 }
 abbrev pub noSense : Sense
 noSense = sense3 0 0 0
 
--- What becomes of the sense: "kept", or set anew.
+-- The table's last column: the sense is kept, or set anew.
 pub data SenseStep : Type 0 where
   keep : SenseStep
   anew : Sense → SenseStep
@@ -28,7 +28,8 @@ abbrev pub senseAfter : Sense → SenseStep → Sense
 senseAfter s keep = s
 senseAfter s (anew t) = t
 
--- "02 and cause": the cause's number in the packed answer, and its sense; n is the record's byte count.
+-- A load check's sense, 02 with its cause, as the sections on the loads give it; and the number by which a packed answer names the cause.
+-- n is the record's byte count, which the sum of an FCB shows.
 pub record Caused : Type 0 where
   pub number : ℕ
   pub sense : Sense
@@ -48,7 +49,7 @@ causeOf n NumberRecord = caused 8 0x80 0
 causeOf n SegmentEnds = caused 9 0x80 0
 causeOf n SegmentFields = caused 10 0 0x20
 
--- The table of numbers.
+-- The table of numbers, with its row for each kind of refusal.
 pub record Row : Type 0 where
   pub number : ℕ
   pub status : ℕ
@@ -57,14 +58,13 @@ pub record Row : Type 0 where
 abbrev row : ℕ → ℕ → SenseStep → Row
 row n s t = record { number = n; status = s; sense = t }
 
--- Row 0 has the status without its additions, and leaves the sense to the command.
+-- Row 0 has the status without its additions, and leaves the sense to the command. Row 5 is (house).
 unfoldable pub rowOf : ℕ → Refusal → Row
 rowOf n Accepted = row 0 0x0C keep
 rowOf n NotListed = row 1 0x0E (anew (sense3 0x80 0x80 0))
 rowOf n BadRecord = row 2 0x00 keep
 rowOf n (LoadCheck c) = row 3 0x0E (anew (causeOf n c .sense))
 rowOf n PageWaiting = row 4 0x10 keep
--- (house)
 rowOf n PageStarted = row 5 0x0E (anew (sense3 0x02 0 0))
 rowOf n NoPage = row 6 0x00 keep
 rowOf n BadIndex = row 7 0x00 keep
@@ -79,11 +79,11 @@ numberOf x = rowOf 0 x .number
 unfoldable pub isAccepted : Refusal → Bool
 isAccepted x = eqb (numberOf x) 0
 
--- "Page ready and lines moved are 0 on a refusal"; copy number and mark are 0 but for an accepted Compose.
+-- An answer with no page ready, no lines moved, no copy: every refusal, and accepted calls that have none to tell.
 abbrev pub only : Refusal → ℕ → Answer
 only x status = record { refusal = x; status = status; ready = false; lines = 0; copy = 0; mark = 0 }
 
--- A load check is given by what its load's check finds.
+-- What a load's check finds, as an entry of an order.
 unfoldable pub checked : Checked → Option Refusal
 checked Sound = none
 checked (Faulty c) = some (LoadCheck c)

@@ -29,7 +29,7 @@ module _ {ℓ} {A : Type ℓ} where
   joined [] = []
   joined (l ∷ ls) = l ++ joined ls
 
-  -- "Checked in this order, first cause reported": what a test gives if it holds, and the first of several in order, d if none holds
+  -- How every fixed order of the paper is written: what a test gives if it holds, and what the first that holds gives, d if none does.
   unfoldable pub when : Bool → A → Option A
   when true x = some x
   when false x = none
