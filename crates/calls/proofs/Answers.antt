@@ -30,7 +30,7 @@ use Rattle.calls.specs.Reset.{blankSheet, resetState, reset}
 use Rattle.calls.specs.Effects.{Effect, nothing, refused, done, movedSheet, moveOf, standing, movedCore, marked, written, loaded, atLine1, quietly, doMove, doWrite, doLoad, completing, doControl, doCommand}
 use Rattle.calls.specs.Calls.{Call, command, compose, release, movement, refusalOf, doCompose, doRelease, emptied, released, perform, effect, step}
 use Rattle.calls.proofs.Accepted.{taken}
-use Rattle.calls.proofs.Refused.{refused-effect, accepted-effect}
+use Rattle.calls.proofs.Refused.{accepted-effect, by-outcome}
 
 abbrev pub isMove : Command → Bool
 isMove (Write m) = true
@@ -74,9 +74,12 @@ shape k (Controls (Select n)) r e = sets _ _ refl refl
 shape k (Loads l) r e = sets _ _ refl refl
 shape k Unlisted r e = absurd (true≢false e)
 
+performed : (k : Core) (b : ℕ) (r reply : List ℕ) → isAccepted (refusalOf k (command b r reply)) ≡ true → Shape k (decode b) (doCommand k (decode b) r)
+performed k b r reply e = shape k (decode b) r (taken k b r reply e .known)
+
 pub acted : (k : Core) (b : ℕ) (r reply : List ℕ) → isAccepted (refusalOf k (command b r reply)) ≡ true → Shape k (decode b) (effect k (command b r reply))
 unfolding perform
-acted k b r reply e = rw (accepted-effect k (command b r reply) e) (shape k (decode b) r (taken k b r reply e .known))
+acted k b r reply e = rw (accepted-effect k (command b r reply) e) (performed k b r reply e)
 
 -- The answer's refusal is the one that the order gives.
 names-shape : {k : Core} {c : Command} {e : Effect} → Shape k c e → e .answer .refusal ≡ Accepted
@@ -84,22 +87,19 @@ unfolding done
 names-shape (sets k′ x q e) = ap (λ (e : Effect). e .answer .refusal) e
 names-shape (quiet s f q m e) = ap (λ (e : Effect). e .answer .refusal) e
 
-names-accepted : (k : Core) (c : Call) → isAccepted (refusalOf k c) ≡ true → effect k c .answer .refusal ≡ Accepted
+names-perform : (k : Core) (c : Call) → isAccepted (refusalOf k c) ≡ true → perform k c .answer .refusal ≡ Accepted
 unfolding perform doCompose doRelease
-names-accepted k (command b r reply) e = names-shape (acted k b r reply e)
-names-accepted k (compose n out) e = rw (accepted-effect k (compose n out) e)
-names-accepted k release e = rw (accepted-effect k release e)
+names-perform k (command b r reply) e = names-shape (performed k b r reply e)
+names-perform k (compose n out) e = refl
+names-perform k release e = refl
 
 pub names : (w : World) (c : Call) → step w c .answer .refusal ≡ refusalOf (w .core) c
 unfolding step refused
-names w c = go (isAccepted (refusalOf (w .core) c)) refl
-  where
-    go : (t : Bool) → isAccepted (refusalOf (w .core) c) ≡ t → step w c .answer .refusal ≡ refusalOf (w .core) c
-    go true e = names-accepted (w .core) c e ∙ sym (accepted-is _ e)
-    go false e = rw (refused-effect (w .core) c e)
+names w c =
+    by-outcome (λ (e : Effect). e .answer .refusal ≡ refusalOf (w .core) c) (w .core) c
+    (λ e. names-perform (w .core) c e ∙ sym (accepted-is _ e)) (λ e. refl)
 
--- Lines moved: that of the command's movement, which counts the lines entered or looked at, and
--- only Write and Move have any.
+-- Lines moved: that of the command's movement, which counts the lines entered or looked at, and only Write and Move have any.
 lines-shape : {k : Core} {c : Command} {e : Effect} → Shape k c e → e .answer .lines ≡ movement k c .lines
 unfolding done still
 lines-shape (sets k′ x q e) = ap (λ (e : Effect). e .answer .lines) e
@@ -119,10 +119,10 @@ lines-of-moves k (Loads l) e = refl
 lines-of-moves k Unlisted e = refl
 
 pub lines-of-others : (k : Core) (c : Call) → isCommand c ≡ false → effect k c .answer .lines ≡ 0
-unfolding effect perform doCompose doRelease refused
+unfolding perform doCompose doRelease refused
 lines-of-others k (command b r reply) e = absurd (true≢false e)
-lines-of-others k (compose n out) e = cond-has (λ (x : Effect). x .answer .lines ≡ 0) (isAccepted (refusalOf k (compose n out))) (λ t. refl) (λ t. refl)
-lines-of-others k release e = cond-has (λ (x : Effect). x .answer .lines ≡ 0) (isAccepted (refusalOf k release)) (λ t. refl) (λ t. refl)
+lines-of-others k (compose n out) e = by-outcome (λ (x : Effect). x .answer .lines ≡ 0) k (compose n out) (λ a. refl) (λ a. refl)
+lines-of-others k release e = by-outcome (λ (x : Effect). x .answer .lines ≡ 0) k release (λ a. refl) (λ a. refl)
 
 -- Copy number and overlay mark are 0 in every answer but that of an accepted Compose.
 abbrev NoCopy : Effect → Type 0
@@ -133,23 +133,11 @@ unfolding done
 copy-shape (sets k′ x q e) = rw e (refl, refl)
 copy-shape (quiet s f q m e) = rw e (refl, refl)
 
-refused-copy : (k : Core) (c : Call) → isAccepted (refusalOf k c) ≡ false → NoCopy (effect k c)
-unfolding refused
-refused-copy k c e = rw (refused-effect k c e) (refl, refl)
-
 pub no-copy : (k : Core) (c : Call) → (isCompose c && isAccepted (refusalOf k c)) ≡ false → NoCopy (effect k c)
-unfolding perform doRelease
-no-copy k (command b r reply) e = go (isAccepted (refusalOf k (command b r reply))) refl
-  where
-    go : (t : Bool) → isAccepted (refusalOf k (command b r reply)) ≡ t → NoCopy (effect k (command b r reply))
-    go true a = copy-shape (acted k b r reply a)
-    go false a = refused-copy k (command b r reply) a
-no-copy k (compose n out) e = refused-copy k (compose n out) e
-no-copy k release e = go (isAccepted (refusalOf k release)) refl
-  where
-    go : (t : Bool) → isAccepted (refusalOf k release) ≡ t → NoCopy (effect k release)
-    go true a = rw (accepted-effect k release a) (refl, refl)
-    go false a = refused-copy k release a
+unfolding perform doRelease refused
+no-copy k (command b r reply) e = by-outcome NoCopy k (command b r reply) (λ a. copy-shape (performed k b r reply a)) (λ a. (refl, refl))
+no-copy k (compose n out) e = by-outcome NoCopy k (compose n out) (λ a. absurd (true≢false (sym a ∙ e))) (λ a. (refl, refl))
+no-copy k release e = by-outcome NoCopy k release (λ a. (refl, refl)) (λ a. (refl, refl))
 
 -- Accepted commands but No-Op and Sense set the sense anew.
 anew-shape : {k : Core} {c : Command} {e : Effect} → Shape k c e → traitsOf c .quiet ≡ false → isAnew (e .sense) ≡ true
@@ -223,21 +211,15 @@ pub released-waits : (k : Core) → released k .state .sheet .waiting ≡ false
 unfolding released emptied reset resetState blankSheet
 released-waits k = cond-has (λ (x : Core). x .state .sheet .waiting ≡ false) (k .state .sheet .due) (λ t. refl) (λ t. refl)
 
-refused-ready : (k : Core) (c : Call) → isAccepted (refusalOf k c) ≡ false → Ready k (effect k c)
-unfolding refused
-refused-ready k c e = rw (refused-effect k c e) (not-both (k .state .sheet .waiting))
+ready-perform : (k : Core) (c : Call) → isAccepted (refusalOf k c) ≡ true → Ready k (perform k c)
+unfolding perform doCompose doRelease
+ready-perform k (command b r reply) e = ready-shape (performed k b r reply e) (taken k b r reply e .free) (waits-after k (decode b) r)
+ready-perform k (compose n out) e = not-both (k .state .sheet .waiting)
+ready-perform k release e = rw (released-waits k) (sym (and-false (not (k .state .sheet .waiting))))
 
 pub ready-exactly : (k : Core) (c : Call) → Ready k (effect k c)
-unfolding perform doCompose doRelease
-ready-exactly k c = go c (isAccepted (refusalOf k c)) refl
-  where
-    go : (c : Call) (t : Bool) → isAccepted (refusalOf k c) ≡ t → Ready k (effect k c)
-    go c false e = refused-ready k c e
-    go (command b r reply) true e =
-        ready-shape (acted k b r reply e) (taken k b r reply e .free)
-        (λ w. ap (λ (x : Effect). x .core .state .sheet .waiting) (accepted-effect k (command b r reply) e) ∙ waits-after k (decode b) r w)
-    go (compose n out) true e = rw (accepted-effect k (compose n out) e) (not-both (k .state .sheet .waiting))
-    go release true e = rw (accepted-effect k release e, released-waits k) (sym (and-false (not (k .state .sheet .waiting))))
+unfolding refused
+ready-exactly k c = by-outcome (Ready k) k c (ready-perform k c) (λ e. not-both (k .state .sheet .waiting))
 
 -- Every command completes at most one page, on every form, so that number 11 is never given.
 pub one-page-only : (k : Core) (c : Command) → movement k c .pages ≤ 1

@@ -24,7 +24,7 @@ use Rattle.calls.specs.Reset.{blankSheet, noCells, resetState, resetStor
 use Rattle.calls.specs.Effects.{Effect, refused, done, movedSheet, moveOf, doMove, marked, written, doWrite, atLine1, loaded, doLoad, completing, doControl, doCommand}
 use Rattle.calls.specs.Calls.{Call, command, compose, release, refusalOf, doCompose, emptied, released, doRelease, perform, effect}
 use Rattle.calls.proofs.Accepted.{Taken, taken}
-use Rattle.calls.proofs.Refused.{refused-effect, accepted-effect}
+use Rattle.calls.proofs.Refused.{by-outcome}
 use Rattle.calls.proofs.Answers.{was-free}
 use Rattle.calls.proofs.Good.{Good, good}
 
@@ -107,8 +107,4 @@ blank-perform k release e h = λ w u. released-page k
 
 pub blank-call : (k : Core) (c : Call) → Blank k → Blank (effect k c .core)
 unfolding refused
-blank-call k c h = go (isAccepted (refusalOf k c)) refl
-  where
-    go : (t : Bool) → isAccepted (refusalOf k c) ≡ t → Blank (effect k c .core)
-    go true e = rw (accepted-effect k c e) (blank-perform k c e h)
-    go false e = rw (refused-effect k c e) h
+blank-call k c h = by-outcome (λ (e : Effect). Blank (e .core)) k c (λ e. blank-perform k c e h) (λ e. h)

@@ -44,7 +44,7 @@ use Rattle.calls.specs.Calls.{Call, command, compose, release, checkOf, 
 use Rattle.calls.specs.Start.{startRefusal, startWorld, startOutcome}
 use Rattle.calls.specs.Lists.{worldAfter}
 use Rattle.calls.proofs.Accepted.{Taken, taken, startable}
-use Rattle.calls.proofs.Refused.{refused-effect, accepted-effect}
+use Rattle.calls.proofs.Refused.{by-outcome}
 use Rattle.calls.proofs.Answers.{was-free, names}
 use Rattle.calls.proofs.Good.{CopiesGood, SheetGood, Good, ok, form-listed, forms-good, forms-line, blank-good, no-cells, reset-good}
 
@@ -286,11 +286,7 @@ good-perform k release e g = good-released k g
 -- One call, and a list of calls.
 pub good-call : (k : Core) (c : Call) → Good k → Good (effect k c .core)
 unfolding refused
-good-call k c g = go (isAccepted (refusalOf k c)) refl
-  where
-    go : (t : Bool) → isAccepted (refusalOf k c) ≡ t → Good (effect k c .core)
-    go true e = rw (accepted-effect k c e) (good-perform k c e g)
-    go false e = rw (refused-effect k c e) g
+good-call k c g = by-outcome (λ (e : Effect). Good (e .core)) k c (λ e. good-perform k c e g) (λ e. g)
 
 pub good-calls : (w : World) (cs : List Call) → Good (w .core) → Good (worldAfter w cs .core)
 unfolding worldAfter step

@@ -4,7 +4,6 @@ use mathlib.Core.Path.{_≡_, refl, sym, ap, _∙_}
 use mathlib.Core.Bool.{Bool, true, false, cond}
 use mathlib.Core.List.{List, [], _∷_, map}
 use lib.ListN.{length}
-use Rattle.seq.proofs.Laws.{cond-has}
 use Rattle.numbers.specs.declared.Sense.{Sense}
 use Rattle.numbers.specs.declared.Answer.{Answer}
 use Rattle.numbers.specs.Numbers.{isAccepted}
@@ -12,9 +11,10 @@ use Rattle.calls.specs.declared.Fixed.{Fixed}
 use Rattle.calls.specs.Core.{Stores, Core, World}
 use Rattle.calls.specs.Reset.{fresh}
 use Rattle.calls.specs.Effects.{Effect, refused}
-use Rattle.calls.specs.Calls.{Call, compose, refusalOf, doCompose, perform, effect, over, step}
+use Rattle.calls.specs.Calls.{Call, compose, doCompose, perform, effect, over, step}
 use Rattle.calls.specs.Start.{startRefusal, startWorld, startOutcome}
 use Rattle.calls.specs.Lists.{outcomes, worldAfter, Deed, Copy, copiesOfPage, sinceReset}
+use Rattle.calls.proofs.Refused.{by-outcome}
 use Rattle.calls.proofs.Closed.{started-so}
 use Rattle.calls.proofs.Redo.{redo, redone, tracked}
 
@@ -28,8 +28,8 @@ answers-alike v w (c ∷ cs) e =
 
 compose-front : (k : Core) (n : ℕ) (out : List ℕ) (s t : Sense)
     → over (effect k (compose n out) .front s) out ≡ over (effect k (compose n out) .front t) out
-unfolding effect perform doCompose refused
-compose-front k n out s t = cond-has (λ (e : Effect). over (e .front s) out ≡ over (e .front t) out) (isAccepted (refusalOf k (compose n out))) (λ a. refl) (λ a. refl)
+unfolding perform doCompose refused
+compose-front k n out s t = by-outcome (λ (e : Effect). over (e .front s) out ≡ over (e .front t) out) k (compose n out) (λ a. refl) (λ a. refl)
 
 after-alike : (v w : World) (cs : List Call) → v .core ≡ w .core → worldAfter v cs .core ≡ worldAfter w cs .core
 unfolding worldAfter step

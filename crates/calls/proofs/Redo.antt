@@ -2,7 +2,7 @@
 -- the deeds since then, done again on it, leave.
 use Prim.Native.Nat.{ℕ}
 use mathlib.Core.Path.{_≡_, refl, sym, ap, _∙_}
-use mathlib.Core.Bool.{Bool, true, false, true≢false, false≢true}
+use mathlib.Core.Bool.{Bool, true, false, not, true≢false, false≢true}
 use mathlib.Core.List.{List, [], _∷_, _++_}
 use Rattle.seq.specs.Words.{every, firstOr}
 use Rattle.seq.proofs.Laws.{every-at, not-true, cond-has}
@@ -20,33 +20,27 @@ use Rattle.calls.specs.Effects.{Effect, refused, done, doMove, written, 
 use Rattle.calls.specs.Calls.{Call, command, compose, release, commandTests, checkOf, refusalOf, doCompose, emptied, released, doRelease, perform, effect, step}
 use Rattle.calls.specs.Lists.{worldAfter, counts, Deed, commanded, wasReleased, readOf, deedOf, finishesReset, Given, given, Since, sinceNow, note, sinceOver, sinceReset}
 use Rattle.calls.proofs.Accepted.{taken}
-use Rattle.calls.proofs.Refused.{refused-effect, accepted-effect}
-use Rattle.calls.proofs.Answers.{Shape, sets, quiet, acted, was-free}
+use Rattle.calls.proofs.Refused.{accepted-effect, by-outcome}
+use Rattle.calls.proofs.Answers.{Shape, sets, quiet, shape, was-free}
 use Rattle.calls.proofs.Blank.{Blank, blank-call}
 
 -- What does not count leaves the core: refused calls, No-Op and Sense, Compose.
-refused-core : (k : Core) (c : Call) → isAccepted (refusalOf k c) ≡ false → effect k c .core ≡ k
-unfolding refused
-refused-core k c e = ap (λ (x : Effect). x .core) (refused-effect k c e)
-
 quiet-core : {k : Core} {c : Command} {e : Effect} → Shape k c e → traitsOf c .quiet ≡ true → e .core ≡ k
 quiet-core (sets k′ x q e) h = absurd (true≢false (sym h ∙ q))
 quiet-core (quiet s f q m e) h = ap (λ (x : Effect). x .core) e
 
+-- an accepted command that does not count is quiet
+not-counted : {a q : Bool} → a ≡ true → every (a ∷ not q ∷ []) ≡ false → q ≡ true
+unfolding every
+not-counted {q = true} h e = refl
+not-counted {q = false} h e = absurd (true≢false (rw h at e))
+
 pub idle-core : (k : Core) (c : Call) → counts k c ≡ false → effect k c .core ≡ k
-unfolding counts every perform doCompose
-idle-core k (command b r reply) e = go (isAccepted (refusalOf k (command b r reply))) refl (traitsOf (decode b) .quiet) refl
-  where
-    go : (a : Bool) → isAccepted (refusalOf k (command b r reply)) ≡ a → (q : Bool) → traitsOf (decode b) .quiet ≡ q → effect k (command b r reply) .core ≡ k
-    go false ea q eq = refused-core k (command b r reply) ea
-    go true ea true eq = quiet-core (acted k b r reply ea) eq
-    go true ea false eq = absurd (true≢false (rw (ea, eq) at e))
-idle-core k (compose n out) e = go (isAccepted (refusalOf k (compose n out))) refl
-  where
-    go : (a : Bool) → isAccepted (refusalOf k (compose n out)) ≡ a → effect k (compose n out) .core ≡ k
-    go false ea = refused-core k (compose n out) ea
-    go true ea = ap (λ (x : Effect). x .core) (accepted-effect k (compose n out) ea)
-idle-core k release e = refused-core k release e
+unfolding counts perform doCompose refused
+idle-core k (command b r reply) e =
+    by-outcome (λ (x : Effect). x .core ≡ k) k (command b r reply) (λ a. quiet-core (shape k (decode b) r (taken k b r reply a .known)) (not-counted a e)) (λ a. refl)
+idle-core k (compose n out) e = by-outcome (λ (x : Effect). x .core ≡ k) k (compose n out) (λ a. refl) (λ a. refl)
+idle-core k release e = by-outcome (λ (x : Effect). x .core ≡ k) k release (λ a. absurd (true≢false (sym a ∙ e))) (λ a. refl)
 
 -- A deed done again: the reply buffer, and a record that the command ignores, do not matter.
 abbrev pub callOf : Deed → Call
@@ -122,8 +116,8 @@ fixed-perform k (compose n out) = refl
 fixed-perform k release = cond-has (Fixes (k .state .fixed)) (k .state .sheet .due) (λ t. refl) (λ t. refl)
 
 fixed-call : (k : Core) (c : Call) → Fixes (k .state .fixed) (effect k c .core)
-unfolding effect refused
-fixed-call k c = cond-has (λ (e : Effect). Fixes (k .state .fixed) (e .core)) (isAccepted (refusalOf k c)) (λ t. fixed-perform k c) (λ t. refl)
+unfolding refused
+fixed-call k c = by-outcome (λ (e : Effect). Fixes (k .state .fixed) (e .core)) k c (λ e. fixed-perform k c) (λ e. refl)
 
 -- A finished reset leaves a printer that depends on form, pitches and switch alone.
 is-initialize : (c : Command) → traitsOf c .resets ≡ true → c ≡ Controls Initialize

@@ -4,7 +4,7 @@ use mathlib.Core.Path.{_≡_, ap, _∙_}
 use mathlib.Core.Bool.{true, false}
 use mathlib.Core.List.{List, []}
 use Rattle.seq.specs.Words.{firstOr, when, every}
-use Rattle.seq.proofs.Laws.{First, first-is, first-only, and-false}
+use Rattle.seq.proofs.Laws.{First, first-is, first-only, and-false, cond-has}
 use Rattle.numbers.specs.declared.Refusal.{Refusal}
 use Rattle.numbers.specs.declared.Refusal.the-variants.{Accepted, BadStore}
 use Rattle.numbers.specs.Numbers.{senseAfter, rowOf, isAccepted, only}
@@ -12,7 +12,7 @@ use Rattle.numbers.proofs.Laws.{tells, sense-kept}
 use Rattle.form.specs.Form.{formLengths}
 use Rattle.calls.specs.Core.{Stores, Core, World, sizesOk}
 use Rattle.calls.specs.Contents.{fixedOk, rangesOk, coreOk}
-use Rattle.calls.specs.Effects.{refused}
+use Rattle.calls.specs.Effects.{Effect, refused}
 use Rattle.calls.specs.Calls.{Call, command, compose, release, testsOf, refusalOf, perform, sizeOf, effect, lent, Outcome, step}
 use Rattle.calls.specs.Start.{startTests, startRefusal, noState, noPrinter, startOutcome}
 
@@ -24,6 +24,12 @@ refused-effect k c e = rw e
 pub accepted-effect : (k : Core) (c : Call) → isAccepted (refusalOf k c) ≡ true → effect k c ≡ perform k c
 unfolding effect
 accepted-effect k c e = rw e
+
+-- What holds of an accepted call's doing, and of a refusal, holds of every call.
+pub by-outcome : (Q : Effect → Type 0) (k : Core) (c : Call) → (isAccepted (refusalOf k c) ≡ true → Q (perform k c))
+    → (isAccepted (refusalOf k c) ≡ false → Q (refused k (sizeOf c) (refusalOf k c))) → Q (effect k c)
+unfolding effect
+by-outcome Q k c a r = cond-has Q (isAccepted (refusalOf k c)) a r
 
 -- The whole outcome of a refused call: its number and status, the sense as tabled, and all else as it was, every lent byte among it.
 pub refused-step : (w : World) (c : Call) → isAccepted (refusalOf (w .core) c) ≡ false
