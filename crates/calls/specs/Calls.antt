@@ -14,7 +14,7 @@ use Rattle.numbers.specs.declared.Refusal.the-variants.{Accepted, NotListed, Ba
 use Rattle.numbers.specs.Numbers.{keep, senseAfter, isAccepted, only, checked}
 use Rattle.form.specs.declared.Moved.{Moved}
 use Rattle.form.specs.Movement.{toTop}
-use Rattle.line.specs.Line.{lineWidth}
+use Rattle.line.specs.Line.{lineWidth, lineBytes}
 use Rattle.copies.specs.Copies.{copyCount, copyNumber, copyMark}
 use Rattle.copies.specs.Legends.{legendSize, composed}
 use Rattle.calls.specs.declared.Command.{Command}
@@ -74,7 +74,7 @@ composeTests k n out =
     when (not (coreOk k)) BadStore
     ∷ when (not (k .state .sheet .waiting)) NoPage
     ∷ when (eqb n 0 || ltb (copyCount (k .state .copies)) n) BadIndex
-    ∷ when (ltb (length out) (lineWidth * P (k .state))) TooShort
+    ∷ when (ltb (length out) (lineBytes * P (k .state))) TooShort
     ∷ []
 
 -- Numbers: the order of Release is 9, 6.

@@ -11,7 +11,7 @@ use Rattle.numbers.specs.declared.Cause.the-variants.{SegmentEnds, SegmentField
 use Rattle.numbers.specs.declared.Checked.{Checked}
 use Rattle.numbers.specs.declared.Checked.the-variants.{Sound, Faulty}
 use Rattle.numbers.specs.Numbers.{isSound}
-use Rattle.line.specs.Line.{lineWidth}
+use Rattle.line.specs.Line.{lineWidth, lineBytes}
 
 abbrev pub legendSize : ℕ
 legendSize = 8192
@@ -123,4 +123,4 @@ copyFrom gs number i (c ∷ cs) = shown gs number (i / lineWidth + 1) (i % lineW
 
 -- The composed copy with this number: the cells of the page's P lines.
 unfoldable pub composed : List ℕ → List ℕ → ℕ → ℕ → List ℕ
-composed page legends P number = copyFrom (map segmentOf (storedSegments legends)) number 0 (take (lineWidth * P) page)
+composed page legends P number = copyFrom (map segmentOf (storedSegments legends)) number 0 (take (lineBytes * P) page)

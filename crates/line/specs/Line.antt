@@ -9,15 +9,21 @@ use Rattle.seq.specs.Words.{any, all, when, firstOr, every, from, bit, zeros}
 use Rattle.line.specs.declared.Slots.{Slots}
 use Rattle.line.specs.declared.Causes.{Causes}
 
--- The page store: 132 lines of 204 cells.
+-- The page store: 132 lines of 204 cells, each cell a byte.
 abbrev pub lineWidth : ℕ
 lineWidth = 204
+
+abbrev pub cellBytes : ℕ
+cellBytes = 1
+
+abbrev pub lineBytes : ℕ
+lineBytes = lineWidth * cellBytes
 
 abbrev pub pageLines : ℕ
 pageLines = 132
 
 abbrev pub pageSize : ℕ
-pageSize = pageLines * lineWidth
+pageSize = pageLines * lineBytes
 
 -- The table store: four slots of 256 bytes; one slot of it, and it with one slot set.
 abbrev pub slotSize : ℕ
@@ -108,10 +114,10 @@ anyCollides (o ∷ old) (n ∷ new) = collides o n || anyCollides old new
 
 -- Line l, from 1, of a page, and the page with that line set.
 unfoldable pub lineAt : ℕ → List ℕ → List ℕ
-lineAt l p = take lineWidth (drop (lineWidth * (l - 1)) p)
+lineAt l p = take lineBytes (drop (lineBytes * (l - 1)) p)
 
 unfoldable pub putLine : ℕ → List ℕ → List ℕ → List ℕ
-putLine l cs p = let at = lineWidth * (l - 1) in take at p ++ (cs ++ drop lineWidth (drop at p))
+putLine l cs p = let at = lineBytes * (l - 1) in take at p ++ (cs ++ drop lineBytes (drop at p))
 
 -- A page after a write on line l: the first write on a line sets its cells, a later one merges with them.
 unfoldable pub pageWritten : Bool → ℕ → List ℕ → List ℕ → List ℕ
