@@ -13,7 +13,7 @@ use Rattle.calls.specs.Reset.{fresh}
 use Rattle.calls.specs.Effects.{Effect, refused}
 use Rattle.calls.specs.Calls.{Call, compose, doCompose, perform, effect, over, step}
 use Rattle.calls.specs.Start.{startRefusal, startWorld, startOutcome}
-use Rattle.calls.specs.Lists.{outcomes, worldAfter, Deed, Copy, copiesOfPage, sinceReset}
+use Rattle.calls.specs.Lists.{outcomes, worldAfter, Deed, Copy, copiesOfPage, pagesOf, sinceReset}
 use Rattle.calls.proofs.Refused.{by-outcome}
 use Rattle.calls.proofs.Closed.{started-so}
 use Rattle.calls.proofs.Redo.{redo, redone, tracked}
@@ -40,13 +40,6 @@ compose-alike : (v w : World) (n : ℕ) (out : List ℕ) → v .core ≡ w .core
 unfolding step
 compose-alike v w n out e =
     compose-front (v .core) n out (v .sense) (w .sense) ∙ ap (λ (k : Core). over (effect k (compose n out) .front (w .sense)) out) e
-
--- The copies of every page that calls complete, in order.
-unfoldable pub pagesOf : World → List Call → List (List Copy)
-pagesOf w [] = []
-pagesOf w (c ∷ cs) =
-    let rest = pagesOf (step w c .world) cs in
-    cond (step w c .answer .ready) (copiesOfPage (step w c .world .core) ∷ rest) rest
 
 pages-alike : (v w : World) (cs : List Call) → v .core ≡ w .core → pagesOf v cs ≡ pagesOf w cs
 unfolding pagesOf step

@@ -47,11 +47,11 @@ page-stays k (compose n out) w e = absurd (false≢true e)
 page-stays k release w e = refl
 
 -- After any list of calls, if a page waits, its copies are those that the last deed gave.
-abbrev pub none : Given
-none = record { answer = only Accepted 0; page = [] }
+abbrev pub nothingYet : Given
+nothingYet = record { answer = only Accepted 0; page = [] }
 
 abbrev pub Shown : Core → Since → Type 0
-Shown k s = k .state .sheet .waiting ≡ true → lastOr none (s .gave) .page ≡ copiesOfPage k
+Shown k s = k .state .sheet .waiting ≡ true → lastOr nothingYet (s .gave) .page ≡ copiesOfPage k
 
 last-one : (d : Given) (l : List Given) (x : Given) → lastOr d (l ++ (x ∷ [])) ≡ x
 last-one d [] x = refl
@@ -77,7 +77,7 @@ shown-note k s c z h = go (finishesReset k c) refl (counts k c) refl (k .state .
     go false ep true eq true ew v = absurd (false≢true (sym (is-release k c (page-stays k c ew eq) eq) ∙ v))
     go false ep true eq false ew v =
         let r : effect k c .answer .ready ≡ true = ready-exactly k c ∙ ap (λ (x : Bool). not x && effect k c .core .state .sheet .waiting) ew ∙ v in
-        rw (ep, eq) (ap (λ (g : Given). g .page) (last-one none (s .gave) (given k c)) ∙ given-page k c r)
+        rw (ep, eq) (ap (λ (g : Given). g .page) (last-one nothingYet (s .gave) (given k c)) ∙ given-page k c r)
     go false ep false eq w ew v =
         let i : effect k c .core ≡ k = idle-core k c eq in
         rw (ep, eq, i) (h (sym (ap (λ (x : Core). x .state .sheet .waiting) i) ∙ v))

@@ -63,6 +63,13 @@ copyAt k n = record { number = copyNumber (k .state .copies) n; mark = copyMark 
 unfoldable pub copiesOfPage : Core → List Copy
 copiesOfPage k = map (copyAt k) (from 1 (copyCount (k .state .copies)))
 
+-- Demand 3: the copies of each page that a list of calls completes, page after page.
+unfoldable pub pagesOf : World → List Call → List (List Copy)
+pagesOf w [] = []
+pagesOf w (c ∷ cs) =
+    let rest = pagesOf (step w c .world) cs in
+    cond (step w c .answer .ready) (copiesOfPage (step w c .world .core) ∷ rest) rest
+
 -- Demand 3: what a call gave: its answer, and all copies of the page that it completed, if it did.
 pub record Given : Type 0 where
   pub answer : Answer
