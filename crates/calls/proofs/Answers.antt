@@ -2,17 +2,17 @@
 use Prim.Native.Nat.{ℕ, _≤_}
 use mathlib.Core.Path.{_≡_, refl, sym, ap, _∙_}
 use mathlib.Core.Bool.{Bool, true, false, cond, not, _&&_, true≢false}
-use mathlib.Core.List.{List, []}
-use mathlib.Core.Logic.{inl, inr}
+use mathlib.Core.List.{List, [], _∷_, map}
+use mathlib.Core.Logic.{_⊎_, inl, inr}
 use native.Mathlib.Omega.{arith}
 use lib.Dec.{eqb, ltb, lit≤}
 use borrow.Author.Tests.{ltb-true}
-use Rattle.seq.specs.Words.{firstOr}
-use Rattle.seq.proofs.Laws.{and-false, cond-has}
+use Rattle.seq.specs.Words.{every}
+use Rattle.seq.proofs.Laws.{and-false, not-true, cond-has, every-at}
 use Rattle.numbers.specs.declared.Sense.{Sense}
 use Rattle.numbers.specs.declared.Refusal.the-variants.{Accepted, NotListed, BadRecord, PageWaiting, PageStarted, TooShort, BadStore, TwoPages}
 use Rattle.numbers.specs.Numbers.{SenseStep, keep, rowOf, numberOf, isAccepted}
-use Rattle.numbers.proofs.Laws.{accepted-is, isAnew, number-not, number-check}
+use Rattle.numbers.proofs.Laws.{accepted-is, isAnew, number-not, number-check, number-none}
 use Rattle.form.specs.declared.Moved.{Moved}
 use Rattle.form.specs.Movement.{still, toTop}
 use Rattle.form.proofs.MovementLaws.{one-page}
@@ -26,6 +26,7 @@ use Rattle.calls.specs.declared.Control.the-variants.{NoOp, SenseIo, Ini
 use Rattle.calls.specs.Core.{Core, World, started}
 use Rattle.calls.specs.Commands.{decode, controlTraits, traitsOf, isUnlisted}
 use Rattle.calls.specs.declared.Load.the-variants.{Fcb, TranslateTable, CopyModification, OverlaySequence, CopyNumber}
+use Rattle.calls.specs.Contents.{coreOk}
 use Rattle.calls.specs.Reset.{blankSheet, resetState, reset}
 use Rattle.calls.specs.Effects.{Effect, nothing, refused, done, movedSheet, moveOf, standing, movedCore, marked, written, loaded, atLine1, quietly, doMove, doWrite, doLoad, completing, doControl, doCommand}
 use Rattle.calls.specs.Calls.{Call, command, compose, release, movement, refusalOf, doCompose, doRelease, emptied, released, perform, effect, step}
@@ -238,18 +239,21 @@ not-two k c = go (ltb 1 (movement k c .pages)) refl
     go true e = absurd (omega (arith, one-page-only k c, ltb-true 1 (movement k c .pages) e))
     go false e = refl
 
-none-11 : eqb (numberOf (firstOr Accepted [])) 11 ≡ false
-unfolding rowOf firstOr
-none-11 = refl
+-- a number that is neither 0 nor one of those that Command gives before 11, nor 9 unless the contents are bad, is not given
+pub command-number : (n : ℕ) (k : Core) (b : ℕ) (r reply : List ℕ) → (not (coreOk k) ≡ false) ⊎ (eqb 9 n ≡ false)
+    → every (map (λ m. not (eqb m n)) (0 ∷ 1 ∷ 4 ∷ 2 ∷ 5 ∷ 3 ∷ 8 ∷ [])) ≡ true
+    → eqb (numberOf (refusalOf k (command b r reply))) n ≡ false
+unfolding refusalOf rowOf
+command-number n k b r reply nine other =
+    number-not n _ BadStore _ nine
+    (number-not n _ NotListed _ (inr (not-true _ (every-at 1 _ other)))
+    (number-not n _ PageWaiting _ (inr (not-true _ (every-at 2 _ other)))
+    (number-not n _ BadRecord _ (inr (not-true _ (every-at 3 _ other)))
+    (number-not n _ PageStarted _ (inr (not-true _ (every-at 4 _ other)))
+    (number-check n _ _ (not-true _ (every-at 5 _ other))
+    (number-not n _ TooShort _ (inr (not-true _ (every-at 6 _ other)))
+    (number-not n _ TwoPages [] (inl (not-two k (decode b))) (number-none n (not-true _ (every-at 0 _ other))))))))))
 
 pub never-11 : (k : Core) (b : ℕ) (r reply : List ℕ) → eqb (numberOf (refusalOf k (command b r reply))) 11 ≡ false
-unfolding refusalOf rowOf
-never-11 k b r reply =
-    number-not 11 _ BadStore _ (inr refl)
-    (number-not 11 _ NotListed _ (inr refl)
-    (number-not 11 _ PageWaiting _ (inr refl)
-    (number-not 11 _ BadRecord _ (inr refl)
-    (number-not 11 _ PageStarted _ (inr refl)
-    (number-check 11 _ _ refl
-    (number-not 11 _ TooShort _ (inr refl)
-    (number-not 11 _ TwoPages [] (inl (not-two k (decode b))) none-11)))))))
+unfolding every
+never-11 k b r reply = command-number 11 k b r reply (inr refl) refl

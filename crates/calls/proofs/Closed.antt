@@ -9,12 +9,12 @@ use lib.ListN.{length, getD, set, take}
 use lib.Seq.{length-take-le}
 use lib.Dec.{eqb, leb, ltb, lit≤}
 use borrow.Author.Tests.{leb-true, le-leb, ltb-false}
-use Rattle.seq.specs.Words.{all, firstOr, empty}
+use Rattle.seq.specs.Words.{all, every, empty}
 use Rattle.seq.proofs.Laws.{and-false, and-left, and-right, or-right, or-true, cond-has, every-at, finally, also, every-of, padded-take, padded-zero}
 use Rattle.numbers.specs.declared.Checked.the-variants.{Sound}
-use Rattle.numbers.specs.declared.Refusal.the-variants.{Accepted, NotListed, BadRecord, PageWaiting, PageStarted, NoPage, BadIndex, TooShort, BadStore, TwoPages}
+use Rattle.numbers.specs.declared.Refusal.the-variants.{NoPage, BadIndex, TooShort, BadStore}
 use Rattle.numbers.specs.Numbers.{rowOf, numberOf, isAccepted}
-use Rattle.numbers.proofs.Laws.{number-not, number-check}
+use Rattle.numbers.proofs.Laws.{number-not, number-none}
 use Rattle.form.specs.declared.Motion.{Motion}
 use Rattle.form.specs.declared.Moved.{Moved}
 use Rattle.form.specs.Form.{fcbCheck}
@@ -45,7 +45,7 @@ use Rattle.calls.specs.Start.{startRefusal, startWorld, startOutcome}
 use Rattle.calls.specs.Lists.{worldAfter}
 use Rattle.calls.proofs.Accepted.{Taken, taken, startable}
 use Rattle.calls.proofs.Refused.{by-outcome}
-use Rattle.calls.proofs.Answers.{was-free, names}
+use Rattle.calls.proofs.Answers.{was-free, names, command-number}
 use Rattle.calls.proofs.Good.{CopiesGood, SheetGood, Good, ok, form-listed, forms-good, forms-line, blank-good, no-cells, reset-good}
 
 -- The core with another sheet, and another page as long.
@@ -294,27 +294,15 @@ good-calls w [] g = g
 good-calls w (c ∷ cs) g = good-calls (step w c .world) cs (good-call (w .core) c g)
 
 -- On such contents no call gets 9.
-none-9 : eqb (numberOf (firstOr Accepted [])) 9 ≡ false
-unfolding rowOf firstOr
-none-9 = refl
-
 no-9 : (k : Core) (c : Call) → coreOk k ≡ true → eqb (numberOf (refusalOf k c)) 9 ≡ false
-unfolding refusalOf rowOf
-no-9 k (command b r reply) e =
-    number-not 9 _ BadStore _ (inl (ap not e))
-    (number-not 9 _ NotListed _ (inr refl)
-    (number-not 9 _ PageWaiting _ (inr refl)
-    (number-not 9 _ BadRecord _ (inr refl)
-    (number-not 9 _ PageStarted _ (inr refl)
-    (number-check 9 _ _ refl
-    (number-not 9 _ TooShort _ (inr refl)
-    (number-not 9 _ TwoPages [] (inr refl) none-9)))))))
+unfolding refusalOf rowOf every
+no-9 k (command b r reply) e = command-number 9 k b r reply (inl (ap not e)) refl
 no-9 k (compose n out) e =
     number-not 9 _ BadStore _ (inl (ap not e))
     (number-not 9 _ NoPage _ (inr refl)
     (number-not 9 _ BadIndex _ (inr refl)
-    (number-not 9 _ TooShort [] (inr refl) none-9)))
-no-9 k release e = number-not 9 _ BadStore _ (inl (ap not e)) (number-not 9 _ NoPage [] (inr refl) none-9)
+    (number-not 9 _ TooShort [] (inr refl) (number-none 9 refl))))
+no-9 k release e = number-not 9 _ BadStore _ (inl (ap not e)) (number-not 9 _ NoPage [] (inr refl) (number-none 9 refl))
 
 -- Start leaves such contents, whatever the stores held before it.
 pub started-so : (len : ℕ) (ps : List ℕ) (m : Stores) → isAccepted (startRefusal len ps m) ≡ true → startOutcome len ps m .world ≡ startWorld len ps

@@ -110,3 +110,7 @@ pub number-check : (n : ℕ) (d : Checked) (ts : List (Option Refusal)) → eqb 
 unfolding firstOr checked rowOf
 number-check n Sound ts e h = h
 number-check n (Faulty c) ts e h = e
+
+pub number-none : (n : ℕ) → eqb 0 n ≡ false → eqb (numberOf (firstOr Accepted [])) n ≡ false
+unfolding rowOf firstOr
+number-none n e = e
