@@ -1,14 +1,14 @@
 -- Document 01, "Calls": what each field of an answer says of the call that it answers.
 use Prim.Native.Nat.{ℕ, _≤_}
 use mathlib.Core.Path.{_≡_, refl, sym, ap, _∙_}
-use mathlib.Core.Bool.{Bool, true, false, cond, not, _&&_, true≢false}
+use mathlib.Core.Bool.{Bool, true, false, cond, not, _&&_, true≢false, and-false}
 use mathlib.Core.List.{List, [], _∷_, map}
 use mathlib.Core.Logic.{_⊎_, inl, inr}
 use native.Mathlib.Omega.{arith}
 use lib.Dec.{eqb, ltb, lit≤}
-use borrow.Author.Tests.{ltb-true}
+use borrow.Author.Tests.{ltb-true, not-true}
 use Rattle.seq.specs.Words.{every}
-use Rattle.seq.proofs.Laws.{and-false, not-true, cond-has, every-at}
+use Rattle.seq.proofs.Laws.{cond-has, every-at}
 use Rattle.numbers.specs.declared.Sense.{Sense}
 use Rattle.numbers.specs.declared.Refusal.the-variants.{Accepted, NotListed, BadRecord, PageWaiting, PageStarted, TooShort, BadStore, TwoPages}
 use Rattle.numbers.specs.Numbers.{SenseStep, keep, rowOf, numberOf, isAccepted}
@@ -110,14 +110,14 @@ pub lines-moved : (k : Core) (b : ℕ) (r reply : List ℕ) → isAccepted (refu
     → effect k (command b r reply) .answer .lines ≡ movement k (decode b) .lines
 lines-moved k b r reply e = lines-shape (acted k b r reply e)
 
-pub lines-of-moves : (k : Core) (c : Command) → isMove c ≡ false → movement k c .lines ≡ 0
+pub lines-of-no-move : (k : Core) (c : Command) → isMove c ≡ false → movement k c .lines ≡ 0
 unfolding movement still toTop
-lines-of-moves k (Write m) e = absurd (true≢false e)
-lines-of-moves k (Move m) e = absurd (true≢false e)
-lines-of-moves k (Controls c) e =
+lines-of-no-move k (Write m) e = absurd (true≢false e)
+lines-of-no-move k (Move m) e = absurd (true≢false e)
+lines-of-no-move k (Controls c) e =
     cond-has (λ (v : Moved). v .lines ≡ 0) (controlTraits c .completes && started (k .state .sheet)) (λ t. refl) (λ t. refl)
-lines-of-moves k (Loads l) e = refl
-lines-of-moves k Unlisted e = refl
+lines-of-no-move k (Loads l) e = refl
+lines-of-no-move k Unlisted e = refl
 
 pub lines-of-others : (k : Core) (c : Call) → isCommand c ≡ false → effect k c .answer .lines ≡ 0
 unfolding perform doCompose doRelease refused

@@ -1,12 +1,12 @@
 -- What demand 3 needs of every printer that Start and calls lead to: a page that is neither started nor waiting is all 00.
 use Prim.Native.Nat.{ℕ, _≤_}
 use mathlib.Core.Path.{_≡_, refl, sym, _∙_}
-use mathlib.Core.Bool.{Bool, true, false, not, _&&_, _||_, true≢false, and-true}
+use mathlib.Core.Bool.{Bool, true, false, not, _&&_, _||_, true≢false, and-true, or-true}
 use mathlib.Core.List.{List}
 use native.Mathlib.Omega.{arith}
 use lib.Dec.{eqb}
-use borrow.Author.Tests.{eqb-true}
-use Rattle.seq.proofs.Laws.{or-left, or-true, not-false, cond-has}
+use borrow.Author.Tests.{eqb-true, not-false}
+use Rattle.seq.proofs.Laws.{or-left, cond-has}
 use Rattle.numbers.specs.Numbers.{isAccepted}
 use Rattle.form.specs.declared.Motion.{Motion}
 use Rattle.form.specs.declared.Moved.{Moved}

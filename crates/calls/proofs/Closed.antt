@@ -1,7 +1,7 @@
 -- After an accepted Start no call ever gets 9: each call keeps contents that a printer can have.
 use Prim.Native.Nat.{ℕ, zero, suc, _≤_}
 use mathlib.Core.Path.{_≡_, refl, ap, _∙_}
-use mathlib.Core.Bool.{Bool, true, false, not, _&&_}
+use mathlib.Core.Bool.{Bool, true, false, not, _&&_, and-false, or-true}
 use mathlib.Core.List.{List, [], _∷_}
 use mathlib.Core.Logic.{inl, inr}
 use native.Mathlib.Omega.{arith}
@@ -10,7 +10,7 @@ use lib.Seq.{length-take-le}
 use lib.Dec.{eqb, leb, ltb, lit≤}
 use borrow.Author.Tests.{leb-true, le-leb, ltb-false}
 use Rattle.seq.specs.Words.{all, every, empty}
-use Rattle.seq.proofs.Laws.{and-false, and-left, and-right, or-right, or-true, cond-has, every-at, finally, also, every-of, padded-take, padded-zero}
+use Rattle.seq.proofs.Laws.{and-left, and-right, or-right, cond-has, every-at, finally, also, every-of, padded-take, padded-zero}
 use Rattle.numbers.specs.declared.Checked.the-variants.{Sound}
 use Rattle.numbers.specs.declared.Refusal.the-variants.{NoPage, BadIndex, TooShort, BadStore}
 use Rattle.numbers.specs.Numbers.{rowOf, numberOf, isAccepted}
@@ -19,7 +19,7 @@ use Rattle.form.specs.declared.Motion.{Motion}
 use Rattle.form.specs.declared.Moved.{Moved}
 use Rattle.form.specs.Form.{fcbCheck}
 use Rattle.form.specs.Movement.{toTop}
-use Rattle.form.proofs.FormLaws.{few-lines}
+use Rattle.form.proofs.FormLaws.{form-listed, few-lines}
 use Rattle.form.proofs.MovementLaws.{down, over, Went, stays, goes, went}
 use Rattle.line.specs.declared.Slots.{Slots}
 use Rattle.line.specs.Line.{slotSize, tableSize, pageSize, serving, translated, slotsInRange}
@@ -37,7 +37,7 @@ use Rattle.calls.specs.declared.Command.{Command}
 use Rattle.calls.specs.declared.Command.the-variants.{Write, Move, Controls, Loads, Unlisted}
 use Rattle.calls.specs.Core.{Stores, Core, World, withState, withPage, withTables, withBlocked, withSlots, withCopies, withSheet, linesNow, P, started}
 use Rattle.calls.specs.Commands.{codes, lookUp, skips, decode, controlTraits, traitsOf}
-use Rattle.calls.specs.Contents.{fixedOk, dueOk, markOk, coreOk}
+use Rattle.calls.specs.Contents.{dueOk, markOk, coreOk}
 use Rattle.calls.specs.Reset.{noCells, reset, fresh}
 use Rattle.calls.specs.Effects.{Effect, refused, done, movedSheet, movedCore, moveOf, doMove, marked, written, doWrite, loadCheck, atLine1, slotLoaded, slotSelected, loaded, doLoad, completing, doControl, doCommand}
 use Rattle.calls.specs.Calls.{Call, command, compose, release, checkOf, refusalOf, doCompose, emptied, released, doRelease, perform, effect, step}
@@ -46,7 +46,7 @@ use Rattle.calls.specs.Lists.{worldAfter}
 use Rattle.calls.proofs.Accepted.{Taken, taken, startable}
 use Rattle.calls.proofs.Refused.{by-outcome}
 use Rattle.calls.proofs.Answers.{was-free, names, command-number}
-use Rattle.calls.proofs.Good.{CopiesGood, SheetGood, Good, ok, form-listed, forms-good, forms-line, blank-good, no-cells, reset-good}
+use Rattle.calls.proofs.Good.{CopiesGood, SheetGood, Good, ok, forms-good, forms-line, blank-good, no-cells, reset-good}
 
 -- The core with another sheet, and another page as long.
 sheet-good : {k : Core} (x : Sheet) (p : List ℕ) → Good k → SheetGood (P (k .state)) x → length p ≡ pageSize → Good (withPage (withState k (withSheet (k .state) x)) p)
@@ -88,7 +88,7 @@ good-move k m w g =
 
 few-now : (k : Core) → Good k → P (k .state) ≤ 132
 unfolding linesNow
-few-now k g = few-lines (k .state .fixed .length) _ (form-listed (k .state .fixed) (g .fixed)) (g .forms .taken)
+few-now k g = few-lines (k .state .fixed .length) _ (form-listed (k .state .fixed .length) (k .state .fixed .pitches) (g .fixed)) (g .forms .taken)
 
 written-size : (k : Core) (r : List ℕ) → length r ≤ 204 → Good k → length (written k r .stores .page) ≡ pageSize
 unfolding written
@@ -152,7 +152,7 @@ good-fcb : (k : Core) (r : List ℕ) → fcbCheck (k .state .fixed .length) r �
 unfolding loaded linesNow atLine1 dueOk markOk
 good-fcb k r e g =
     let len = k .state .fixed .length in
-    let l = form-listed (k .state .fixed) (g .fixed) in
+    let l = form-listed (k .state .fixed .length) (k .state .fixed .pitches) (g .fixed) in
     record {
       sizes = g .sizes;
       fixed = g .fixed;
@@ -310,10 +310,9 @@ unfolding startOutcome
 started-so len ps m e = rw e
 
 pub start-good : (len : ℕ) (ps : List ℕ) (m : Stores) → isAccepted (startRefusal len ps m) ≡ true → Good (startWorld len ps .core)
-unfolding startWorld fresh fixedOk
+unfolding startWorld fresh
 start-good len ps m e =
-    let s = startable len ps m e in
-    reset-good (record { length = len; pitches = ps }) false noCells (every-of (also (s .form) (also (s .pitches) finally))) no-cells
+    reset-good (record { length = len; pitches = ps }) false noCells (startable len ps m e .form) no-cells
 
 pub never-9 : (len : ℕ) (ps : List ℕ) (m : Stores) (cs : List Call) (c : Call) → isAccepted (startRefusal len ps m) ≡ true
     → eqb (numberOf (step (worldAfter (startOutcome len ps m .world) cs) c .answer .refusal)) 9 ≡ false

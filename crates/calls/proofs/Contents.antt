@@ -7,13 +7,13 @@ use mathlib.Core.List.{List, [], _∷_, _++_, map}
 use lib.ListN.{length, set, replicate}
 use Rattle.seq.specs.Words.{joined, when, firstOr, every, from, zeros, padded}
 use Rattle.numbers.specs.Numbers.{rowOf, numberOf, isSound}
-use Rattle.form.specs.Form.{formLengths, pitchesListed, pitchesOk, unitsOf, runsFrom, runs, unitsTotal, printableFrom, printable, edgeFrom, fcbCheck, startFcb, formsOf, formsInRange}
+use Rattle.form.specs.Form.{formLengths, pitchesListed, pitchesOk, formOk, unitsOf, runsFrom, runs, unitsTotal, linesWhere, printable, edges, fcbCheck, startFcb, formsOf, formsInRange}
 use Rattle.line.specs.Line.{startTable, startTables, startSlots, slotsInRange}
 use Rattle.copies.specs.Copies.{pairsOf, copiesOf, sequenceCheck, startCopies, copiesInRange}
 use Rattle.copies.specs.Legends.{badHead, cut, segments, legendCheck, storedSegments, legendsOk, noLegends}
 use Rattle.calls.specs.Core.{Stores, Core, sizesOk, withState, withPage, withLegends, withTables, withForms, withSlots, withCopies, withSheet, linesNow}
 use Rattle.calls.specs.Commands.{codes, lookUp, decode, isUnlisted}
-use Rattle.calls.specs.Contents.{fixedOk, lineOk, rangesOk, dueOk, markOk, clauses, coreOk}
+use Rattle.calls.specs.Contents.{lineOk, rangesOk, dueOk, markOk, clauses, coreOk}
 use Rattle.calls.specs.Reset.{blankSheet, noCells, resetState, resetStores, fresh}
 use Rattle.calls.specs.Start.{startRefusal}
 
@@ -82,22 +82,22 @@ broken =
     ∷ breaks 6 (with-legends (0 ∷ 1 ∷ [])) ∷ breaks 6 (with-legends (1 ∷ 1 ∷ 1 ∷ 1 ∷ 1 ∷ 1 ∷ 0 ∷ 0 ∷ 1 ∷ []))
     ∷ []
 
-pub each-alone : map (λ b. clauses (b .core)) broken ≡ map (λ b. set (replicate 7 true) (b .clause) false) broken
-unfolding broken joined when firstOr every padded isSound formLengths pitchesListed pitchesOk unitsOf runsFrom runs unitsTotal printableFrom printable edgeFrom fcbCheck startFcb formsOf formsInRange startTable startTables startSlots slotsInRange pairsOf copiesOf sequenceCheck startCopies copiesInRange badHead cut segments legendCheck storedSegments legendsOk noLegends sizesOk linesNow fixedOk lineOk rangesOk dueOk markOk blankSheet noCells resetState resetStores fresh
-each-alone = refl
-
 -- Contents that are not on the list: a page that waits with the form at any line, a form at 8 lines per inch, all copies, full legends,
 -- any cell and table bytes.
-pub allowed : map coreOk
-    (k84
+unfoldable pub allowed : List Core
+allowed =
+    k84
     ∷ with-sheet 15 true false false ∷ with-sheet 15 false true true ∷ with-sheet 5 false true false
     ∷ with-fcb (padded 144 (replicate 28 0x10)) 28 ∷ with-slots true 3 ∷ with-copies (255 ∷ 1 ∷ zeros 14) 2 255
     ∷ withPage k84 (replicate 26928 0xFF) ∷ withTables k84 (replicate 1024 0xFF)
     ∷ with-legends (1 ∷ 1 ∷ 1 ∷ 1 ∷ 0xCC ∷ 1 ∷ 0 ∷ []) ∷ with-legends (full 39)
-    ∷ [])
-    ≡ replicate 11 true
-unfolding joined when firstOr every padded isSound formLengths pitchesListed pitchesOk unitsOf runsFrom runs unitsTotal printableFrom printable edgeFrom fcbCheck startFcb formsOf formsInRange startTable startTables startSlots slotsInRange pairsOf copiesOf sequenceCheck startCopies copiesInRange badHead cut segments legendCheck storedSegments legendsOk noLegends sizesOk linesNow fixedOk lineOk rangesOk dueOk markOk coreOk blankSheet noCells resetState resetStores fresh
-allowed = refl
+    ∷ []
+
+-- Broken contents break the one clause, and no other; what is allowed breaks none.
+pub each-alone : (map (λ b. clauses (b .core)) broken ≡ map (λ b. set (replicate 7 true) (b .clause) false) broken)
+    × (map clauses allowed ≡ replicate 11 (replicate 7 true))
+unfolding broken allowed joined when firstOr every padded isSound formLengths pitchesListed pitchesOk formOk unitsOf runsFrom runs unitsTotal linesWhere printable edges fcbCheck startFcb formsOf formsInRange startTable startTables startSlots slotsInRange pairsOf copiesOf sequenceCheck startCopies copiesInRange badHead cut segments legendCheck storedSegments legendsOk noLegends sizesOk linesNow lineOk rangesOk dueOk markOk blankSheet noCells resetState resetStores fresh
+each-alone = (refl, refl)
 
 -- All cell and table bytes are allowed. (So is all legend text: `stored-ok` holds whatever the text is translated to.)
 pub any-page : (k : Core) (p : List ℕ) → length p ≡ length (k .stores .page) → coreOk (withPage k p) ≡ coreOk k
@@ -125,7 +125,7 @@ pub start-numbers :
     ∷ starts 85 (10 ∷ 0 ∷ 12 ∷ 15 ∷ []) (sized 26927 8192 1024) ∷ starts 84 (10 ∷ 0 ∷ 12 ∷ 15 ∷ []) (sized 26928 8193 1024) ∷ starts 84 (10 ∷ 0 ∷ 12 ∷ 15 ∷ []) (sized 26928 8192 0)
     ∷ [])
     ≡ 0 ∷ 0 ∷ 10 ∷ 10 ∷ 10 ∷ 10 ∷ 10 ∷ 9 ∷ 9 ∷ 9 ∷ []
-unfolding startRefusal when firstOr every sizesOk formLengths pitchesListed pitchesOk rowOf
+unfolding startRefusal when firstOr every sizesOk formLengths pitchesListed pitchesOk formOk rowOf
 start-numbers = refl
 
 -- The command bytes: 46, and no others.

@@ -1,11 +1,10 @@
 -- The user's third demand. Lists of calls with the same deeds since the latest finished reset leave printers that answer and print alike.
 use Prim.Native.Nat.{ℕ}
 use mathlib.Core.Path.{_≡_, refl, sym, ap, _∙_}
-use mathlib.Core.Bool.{Bool, true, false, cond}
-use mathlib.Core.List.{List, [], _∷_, map}
+use mathlib.Core.Bool.{Bool, true, false}
+use mathlib.Core.List.{List, [], _∷_}
 use lib.ListN.{length}
 use Rattle.numbers.specs.declared.Sense.{Sense}
-use Rattle.numbers.specs.declared.Answer.{Answer}
 use Rattle.numbers.specs.Numbers.{isAccepted}
 use Rattle.calls.specs.declared.Fixed.{Fixed}
 use Rattle.calls.specs.Core.{Stores, Core, World}
@@ -13,19 +12,12 @@ use Rattle.calls.specs.Reset.{fresh}
 use Rattle.calls.specs.Effects.{Effect, refused}
 use Rattle.calls.specs.Calls.{Call, compose, doCompose, perform, effect, over, step}
 use Rattle.calls.specs.Start.{startRefusal, startWorld, startOutcome}
-use Rattle.calls.specs.Lists.{outcomes, worldAfter, Deed, Copy, copiesOfPage, pagesOf, sinceReset}
+use Rattle.calls.specs.Lists.{worldAfter, Deed, gives, sinceReset}
 use Rattle.calls.proofs.Refused.{by-outcome}
 use Rattle.calls.proofs.Closed.{started-so}
 use Rattle.calls.proofs.Redo.{redo, redone, tracked}
 
--- The sense has no part in what a call answers, composes or leaves but in Sense's reply.
-answers-alike : (v w : World) (cs : List Call) → v .core ≡ w .core → map (λ o. o .answer) (outcomes v cs) ≡ map (λ o. o .answer) (outcomes w cs)
-unfolding outcomes step
-answers-alike v w [] e = refl
-answers-alike v w (c ∷ cs) e =
-    ap (λ (k : Core). effect k c .answer ∷ map (λ o. o .answer) (outcomes (step v c .world) cs)) e
-    ∙ ap (λ (l : List Answer). effect (w .core) c .answer ∷ l) (answers-alike (step v c .world) (step w c .world) cs (ap (λ (k : Core). effect k c .core) e))
-
+-- The sense has no part in what calls leave, nor in what Compose writes.
 compose-front : (k : Core) (n : ℕ) (out : List ℕ) (s t : Sense)
     → over (effect k (compose n out) .front s) out ≡ over (effect k (compose n out) .front t) out
 unfolding perform doCompose refused
@@ -41,14 +33,6 @@ unfolding step
 compose-alike v w n out e =
     compose-front (v .core) n out (v .sense) (w .sense) ∙ ap (λ (k : Core). over (effect k (compose n out) .front (w .sense)) out) e
 
-pages-alike : (v w : World) (cs : List Call) → v .core ≡ w .core → pagesOf v cs ≡ pagesOf w cs
-unfolding pagesOf step
-pages-alike v w [] e = refl
-pages-alike v w (c ∷ cs) e =
-    ap (λ (l : List (List Copy)). cond (effect (v .core) c .answer .ready) (copiesOfPage (effect (v .core) c .core) ∷ l) l)
-    (pages-alike (step v c .world) (step w c .world) cs (ap (λ (k : Core). effect k c .core) e))
-    ∙ ap (λ (k : Core). cond (effect k c .answer .ready) (copiesOfPage (effect k c .core) ∷ pagesOf (step w c .world) cs) (pagesOf (step w c .world) cs)) e
-
 -- Two lists of calls, on printers v and w.
 pub record Alike (v w : World) (xs ys : List Call) : Type 0 where
   -- what counts got equal answers, and each page that one of them completed has equal copies under equal numbers and marks
@@ -56,8 +40,7 @@ pub record Alike (v w : World) (xs ys : List Call) : Type 0 where
   -- the printers differ in their sense at most
   pub core : worldAfter v xs .core ≡ worldAfter w ys .core
   -- whatever calls follow, alike on both, they get equal answers, and each page that they complete has equal copies, numbers and marks
-  pub answers : (zs : List Call) → map (λ o. o .answer) (outcomes (worldAfter v xs) zs) ≡ map (λ o. o .answer) (outcomes (worldAfter w ys) zs)
-  pub pages : (zs : List Call) → pagesOf (worldAfter v xs) zs ≡ pagesOf (worldAfter w ys) zs
+  pub later : (zs : List Call) → gives (worldAfter v xs .core) zs ≡ gives (worldAfter w ys .core) zs
   -- and a Compose after them writes the same bytes
   pub composes : (zs : List Call) (n : ℕ) (out : List ℕ)
       → step (worldAfter (worldAfter v xs) zs) (compose n out) .buffer ≡ step (worldAfter (worldAfter w ys) zs) (compose n out) .buffer
@@ -79,8 +62,7 @@ alike f v w xs ys ev ew p q =
           ∙ ap (λ (d : List Deed). redone (fresh f (sinceReset w ys .switch)) d) q
           ∙ sym (tw .gave);
       core = e;
-      answers = λ zs. answers-alike _ _ zs e;
-      pages = λ zs. pages-alike _ _ zs e;
+      later = λ zs. ap (λ (k : Core). gives k zs) e;
       composes = λ zs n out. compose-alike _ _ n out (after-alike _ _ zs e);
     }
 

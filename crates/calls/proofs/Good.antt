@@ -12,8 +12,8 @@ use Rattle.numbers.specs.declared.Checked.the-variants.{Sound}
 use Rattle.numbers.specs.Numbers.{isSound}
 use Rattle.numbers.proofs.Laws.{sound-is}
 use Rattle.form.specs.declared.Forms.{Forms}
-use Rattle.form.specs.Form.{formLengths, fcbCheck, printable, startFcb, fcbNow, formsOf, formsInRange}
-use Rattle.form.proofs.FormLaws.{fcb-fits, some-line, start-sound}
+use Rattle.form.specs.Form.{formLengths, formOk, fcbCheck, printable, startFcb, fcbNow, formsOf, formsInRange}
+use Rattle.form.proofs.FormLaws.{form-listed, fcb-fits, some-line, start-sound}
 use Rattle.line.specs.Line.{pageSize, tableSize, startSlots, slotsInRange}
 use Rattle.line.proofs.LineLaws.{length-startTables}
 use Rattle.copies.specs.declared.Copies.{Copies}
@@ -23,7 +23,7 @@ use Rattle.copies.proofs.LegendLaws.{none-ok}
 use Rattle.calls.specs.declared.Fixed.{Fixed}
 use Rattle.calls.specs.declared.Sheet.{Sheet}
 use Rattle.calls.specs.Core.{Stores, Core, sizesOk, linesNow, P}
-use Rattle.calls.specs.Contents.{fixedOk, lineOk, rangesOk, dueOk, markOk, coreOk}
+use Rattle.calls.specs.Contents.{lineOk, rangesOk, dueOk, markOk, coreOk}
 use Rattle.calls.specs.Reset.{blankSheet, noCells, resetState, resetStores}
 
 pub record Sizes (m : Stores) : Type 0 where
@@ -45,9 +45,12 @@ pub record SheetGood (p : ℕ) (s : Sheet) : Type 0 where
   pub due : dueOk s ≡ true
   pub mark : markOk s ≡ true
 
+abbrev pub FixedGood : Fixed → Type 0
+FixedGood f = formOk (f .length) (f .pitches) ≡ true
+
 pub record Good (k : Core) : Type 0 where
   pub sizes : Sizes (k .stores)
-  pub fixed : fixedOk (k .state .fixed) ≡ true
+  pub fixed : FixedGood (k .state .fixed)
   pub forms : FormsGood (k .state .fixed .length) (k .state .forms)
   pub slots : slotsInRange (k .state .slots) ≡ true
   pub copies : CopiesGood (k .state .copies)
@@ -99,11 +102,6 @@ ok k g =
       g .legends,
     )
 
--- The form length is listed.
-pub form-listed : (f : Fixed) → fixedOk f ≡ true → listed formLengths (f .length) ≡ true
-unfolding fixedOk
-form-listed f e = every-at 0 _ e
-
 -- Forms control that its load takes is kept as it was sent, and has a line 1.
 pub forms-now : (r : List ℕ) → fcbNow (formsOf r) ≡ r
 unfolding formsOf
@@ -139,11 +137,11 @@ unfolding noLegends
 no-legends = length-replicate {A = ℕ} legendSize 0
 
 -- A reset leaves such contents, and so do Start and a finished reset.
-module _ (f : Fixed) (blocked : Bool) (page : List ℕ) (e : fixedOk f ≡ true) (size : length page ≡ pageSize) where
+module _ (f : Fixed) (blocked : Bool) (page : List ℕ) (e : FixedGood f) (size : length page ≡ pageSize) where
   pub reset-good : Good (record { state = resetState f blocked; stores = resetStores page })
   unfolding resetState resetStores linesNow
   reset-good =
-      let l : listed formLengths (f .length) ≡ true = form-listed f e in
+      let l : listed formLengths (f .length) ≡ true = form-listed (f .length) (f .pitches) e in
       record {
         sizes = record { page = size; legends = no-legends; tables = length-startTables };
         fixed = e;

@@ -1,4 +1,5 @@
 -- Demand 3's pages are those that Compose shows, and of Sense's reply only five bytes may differ.
+use borrow.Author.Tests.{not-true}
 use Prim.Native.Nat.{ℕ, zero, suc, _+_, _-_, _≤_, _<_}
 use mathlib.Core.Path.{_≡_, refl, sym, ap, _∙_}
 use mathlib.Core.Bool.{Bool, true, false, cond, not, _&&_, true≢false, false≢true}
@@ -7,7 +8,7 @@ use native.Mathlib.Omega.{arith}
 use native.Mathlib.Nat.{not-suc-le-zero, le-of-suc-le-suc}
 use lib.ListN.{length, getD, take, drop}
 use Rattle.seq.specs.Words.{lastOr, from}
-use Rattle.seq.proofs.Laws.{every-at, not-true}
+use Rattle.seq.proofs.Laws.{every-at}
 use Rattle.numbers.specs.declared.Sense.{Sense}
 use Rattle.numbers.specs.declared.Refusal.the-variants.{Accepted}
 use Rattle.numbers.specs.Numbers.{isAccepted, only}
@@ -17,13 +18,20 @@ use Rattle.calls.specs.Core.{Core, World}
 use Rattle.calls.specs.Commands.{codes, lookUp, decode, traitsOf}
 use Rattle.calls.specs.Reset.{blankSheet, resetState, resetStores, fresh, senseBytes}
 use Rattle.calls.specs.Effects.{Effect, refused, doControl, doCommand}
-use Rattle.calls.specs.Calls.{Call, command, compose, release, refusalOf, doCompose, doRelease, perform, effect, over, step}
-use Rattle.calls.specs.Lists.{worldAfter, counts, finishesReset, Copy, copyAt, copiesOfPage, Given, given, Since, sinceNow, note, sinceOver, sinceReset}
+use Rattle.calls.specs.Calls.{Call, command, compose, release, refusalOf, doCompose, doRelease, perform, effect, over, step, Copy, copyAt}
+use Rattle.calls.specs.Lists.{worldAfter, counts, finishesReset, copiesOfPage, Given, given, gives, Since, sinceNow, note, sinceOver, sinceReset}
 use Rattle.calls.proofs.Accepted.{Taken, taken}
 use Rattle.calls.proofs.Refused.{accepted-effect}
 use Rattle.calls.proofs.Answers.{ready-exactly, was-free, released-waits}
 use Rattle.calls.proofs.Blank.{Blank, blank-call}
 use Rattle.calls.proofs.Redo.{idle-core, finished-waits}
+
+-- What `gives` lists is what the calls, made one after the other, answer and leave.
+pub gives-steps : (w : World) (c : Call) (cs : List Call)
+    → gives (w .core) (c ∷ cs)
+    ≡ record { answer = step w c .answer; page = cond (step w c .answer .ready) (copiesOfPage (step w c .world .core)) [] } ∷ gives (step w c .world .core) cs
+unfolding gives given step
+gives-steps w c cs = refl
 
 -- An accepted Compose, whole: the copy's number, mark and cells, over the front of the output; nothing else changes.
 pub compose-gives : (w : World) (n : ℕ) (out : List ℕ) → isAccepted (refusalOf (w .core) (compose n out)) ≡ true

@@ -1,11 +1,12 @@
 -- Demand 3, the ground: after a finished reset a printer is a function of what Start fixed and the switch, and each later one is what
 -- the deeds since then, done again on it, leave.
+use borrow.Author.Tests.{not-true}
 use Prim.Native.Nat.{ℕ}
 use mathlib.Core.Path.{_≡_, refl, sym, ap, _∙_}
 use mathlib.Core.Bool.{Bool, true, false, not, true≢false, false≢true}
-use mathlib.Core.List.{List, [], _∷_, _++_}
+use mathlib.Core.List.{List, [], _∷_, _++_, map}
 use Rattle.seq.specs.Words.{every, firstOr}
-use Rattle.seq.proofs.Laws.{every-at, not-true, cond-has}
+use Rattle.seq.proofs.Laws.{every-at, cond-has}
 use Rattle.numbers.specs.declared.Refusal.the-variants.{Accepted}
 use Rattle.numbers.specs.Numbers.{rowOf, isAccepted}
 use Rattle.calls.specs.declared.Fixed.{Fixed}
@@ -18,7 +19,7 @@ use Rattle.calls.specs.Commands.{decode, controlTraits, traitsOf}
 use Rattle.calls.specs.Reset.{blankSheet, noCells, resetState, resetStores, reset, fresh}
 use Rattle.calls.specs.Effects.{Effect, refused, done, doMove, written, doWrite, loaded, doLoad, completing, doControl, doCommand}
 use Rattle.calls.specs.Calls.{Call, command, compose, release, commandTests, checkOf, refusalOf, doCompose, emptied, released, doRelease, perform, effect, step}
-use Rattle.calls.specs.Lists.{worldAfter, counts, Deed, commanded, wasReleased, readOf, deedOf, finishesReset, Given, given, Since, sinceNow, note, sinceOver, sinceReset}
+use Rattle.calls.specs.Lists.{worldAfter, counts, Deed, commanded, wasReleased, readOf, deedOf, finishesReset, Given, given, gives, Since, sinceNow, note, sinceOver, sinceReset}
 use Rattle.calls.proofs.Accepted.{taken}
 use Rattle.calls.proofs.Refused.{accepted-effect, by-outcome}
 use Rattle.calls.proofs.Answers.{Shape, sets, quiet, shape, was-free}
@@ -166,9 +167,8 @@ pub redo : Core → List Deed → Core
 redo k [] = k
 redo k (d ∷ ds) = redo (effect k (callOf d) .core) ds
 
-pub redone : Core → List Deed → List Given
-redone k [] = []
-redone k (d ∷ ds) = given k (callOf d) ∷ redone (effect k (callOf d) .core) ds
+abbrev pub redone : Core → List Deed → List Given
+redone k ds = gives k (map callOf ds)
 
 redo-one : (k : Core) (ds : List Deed) (d : Deed) → redo k (ds ++ (d ∷ [])) ≡ effect (redo k ds) (callOf d) .core
 unfolding redo
@@ -176,7 +176,7 @@ redo-one k [] d = refl
 redo-one k (x ∷ ds) d = redo-one (effect k (callOf x) .core) ds d
 
 redone-one : (k : Core) (ds : List Deed) (d : Deed) → redone k (ds ++ (d ∷ [])) ≡ redone k ds ++ (given (redo k ds) (callOf d) ∷ [])
-unfolding redo redone
+unfolding redo gives
 redone-one k [] d = refl
 redone-one k (x ∷ ds) d = ap (λ (l : List Given). given k (callOf x) ∷ l) (redone-one (effect k (callOf x) .core) ds d)
 
@@ -188,7 +188,7 @@ pub record Tracks (f : Fixed) (k : Core) (s : Since) : Type 0 where
   pub blank : Blank k
 
 track-note : (f : Fixed) (k : Core) (s : Since) (c : Call) → Tracks f k s → Tracks f (effect k c .core) (note k s c)
-unfolding note sinceNow redo redone
+unfolding note sinceNow redo gives
 track-note f k s c t = go (finishesReset k c) refl (counts k c) refl
   where
     go : (p : Bool) → finishesReset k c ≡ p → (q : Bool) → counts k c ≡ q → Tracks f (effect k c .core) (note k s c)
@@ -225,7 +225,7 @@ track f w s (c ∷ cs) t = track f (step w c .world) (note (w .core) s c) cs (tr
 
 -- From a printer just started, or just reset.
 pub tracked : (f : Fixed) (blocked : Bool) (w : World) (cs : List Call) → w .core ≡ fresh f blocked → Tracks f (worldAfter w cs .core) (sinceReset w cs)
-unfolding sinceReset sinceNow redo redone fresh resetState resetStores
+unfolding sinceReset sinceNow redo gives fresh resetState resetStores
 tracked f blocked w cs e =
     track f w (sinceNow (w .core .state .blocked)) cs
     (record {

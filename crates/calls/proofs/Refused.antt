@@ -1,17 +1,17 @@
 -- Document 01, "Numbers": a number is given exactly when the table says, and a refused call changes nothing but the sense shown.
 use Prim.Native.Nat.{ℕ}
 use mathlib.Core.Path.{_≡_, ap, _∙_}
-use mathlib.Core.Bool.{true, false}
+use mathlib.Core.Bool.{true, false, and-false}
 use mathlib.Core.List.{List, []}
 use Rattle.seq.specs.Words.{firstOr, when, every}
-use Rattle.seq.proofs.Laws.{First, first-is, first-only, and-false, cond-has}
+use Rattle.seq.proofs.Laws.{First, first-is, first-only, cond-has}
 use Rattle.numbers.specs.declared.Refusal.{Refusal}
 use Rattle.numbers.specs.declared.Refusal.the-variants.{Accepted, BadStore}
 use Rattle.numbers.specs.Numbers.{senseAfter, rowOf, isAccepted, only}
 use Rattle.numbers.proofs.Laws.{tells, sense-kept}
-use Rattle.form.specs.Form.{formLengths}
+use Rattle.form.specs.Form.{formLengths, formOk}
 use Rattle.calls.specs.Core.{Stores, Core, World, sizesOk}
-use Rattle.calls.specs.Contents.{fixedOk, rangesOk, coreOk}
+use Rattle.calls.specs.Contents.{rangesOk, coreOk}
 use Rattle.calls.specs.Effects.{Effect, refused}
 use Rattle.calls.specs.Calls.{Call, command, compose, release, testsOf, refusalOf, perform, sizeOf, effect, lent, Outcome, step}
 use Rattle.calls.specs.Start.{startTests, startRefusal, noState, noPrinter, startOutcome}
@@ -78,7 +78,7 @@ unfolding startOutcome
 refused-start len ps m e = rw e
 
 zeros-bad : (m : Stores) → coreOk (noPrinter m .core) ≡ false
-unfolding coreOk every noPrinter noState rangesOk fixedOk formLengths
+unfolding coreOk every noPrinter noState rangesOk formOk formLengths
 zeros-bad m = and-false (sizesOk m)
 
 pub zeros-nine : (m : Stores) (c : Call) → step (noPrinter m) c ≡ record { answer = only BadStore 0; buffer = lent c; world = noPrinter m }

@@ -14,21 +14,21 @@ use Rattle.numbers.specs.Numbers.{sense3, noSense}
 use Rattle.calls.specs.declared.Sheet.{Sheet}
 use Rattle.calls.specs.Core.{Stores, World}
 use Rattle.calls.specs.Calls.{Call, command, compose, release, Outcome}
-use Rattle.seq.specs.Words.{joined, when, firstOr, every, padded}
+use Rattle.seq.specs.Words.{joined, zipped, when, firstOr, every, padded}
 use Rattle.numbers.specs.Numbers.{causeOf, rowOf, isAccepted, checked, isSound}
-use Rattle.form.specs.Form.{formLengths, pitchesListed, pitchesOk, unitsOf, runsFrom, runs, unitsTotal, printableFrom, printable, edgeFrom, fcbCheck, channelAt, startFcb, formsOf, formsInRange}
+use Rattle.form.specs.Form.{formLengths, pitchesListed, pitchesOk, formOk, unitsOf, runsFrom, runs, unitsTotal, linesWhere, printable, edges, fcbCheck, channelAt, startFcb, formsOf, formsInRange}
 use Rattle.form.specs.Movement.{entered, round, upToFirst, spaced, skipped, moved, still, toTop}
 use Rattle.line.specs.Line.{slotAt, putSlot, isLoaded, serving, unprintable, standIn, cellOf, translated, anyUnprintable, lineCells, mergeRules, mergeCell, collides, mergeLine, anyCollides, lineAt, putLine, pageWritten, noCauses, lineCauses, orUnmatched, causeByte, startTable, startTables, startSlots, slotsInRange}
 use Rattle.copies.specs.Copies.{tableCheck, pairsOf, copiesOf, sequenceCheck, markIn, numberCheck, withSequence, withReference, startCopies, copyCount, copyNumber, copyMark, copiesInRange}
 use Rattle.copies.specs.Legends.{segmentOf, badHead, cut, segments, legendCheck, storedLegends, legendText, storedSegments, legendsOk, noLegends, covers, shown, copyFrom, composed}
 use Rattle.calls.specs.Core.{sizesOk, linesNow, started}
 use Rattle.calls.specs.Commands.{codes, lookUp, decode, controlTraits, traitsOf}
-use Rattle.calls.specs.Contents.{fixedOk, lineOk, rangesOk, dueOk, markOk, coreOk}
+use Rattle.calls.specs.Contents.{lineOk, rangesOk, dueOk, markOk, coreOk}
 use Rattle.calls.specs.Reset.{blankSheet, noCells, resetState, resetStores, reset, fresh, byte3, senseBytes}
 use Rattle.calls.specs.Effects.{refused, done, movedSheet, moveOf, doMove, marked, written, writeCauses, doWrite, loadCheck, atLine1, slotLoaded, slotSelected, loaded, loadCauses, doLoad, completing, doControl, doCommand}
-use Rattle.calls.specs.Calls.{checkOf, movement, refusalOf, composedCopy, doCompose, emptied, released, doRelease, perform, effect, step}
+use Rattle.calls.specs.Calls.{checkOf, movement, refusalOf, copyAt, doCompose, emptied, released, doRelease, perform, effect, step}
 use Rattle.calls.specs.Start.{startRefusal, startWorld, noState, noPrinter, startOutcome}
-use Rattle.calls.specs.Lists.{Deed, commanded, wasReleased, worldAfter, counts, readOf, deedOf, finishesReset, copyAt, copiesOfPage, given, sinceNow, note, sinceOver, sinceReset}
+use Rattle.calls.specs.Lists.{Deed, commanded, wasReleased, worldAfter, counts, readOf, deedOf, finishesReset, copiesOfPage, given, sinceNow, note, sinceOver, sinceReset}
 
 -- A printer started over stores full of other bytes, with these pitches on the 3½ inch form; R1 to R12 have all four pitches 10.
 abbrev old : Stores
@@ -230,5 +230,5 @@ abbrev counted : Counted → Counted
 counted l = let s = sinceReset (begun tens) (l .calls) in record { calls = l .calls; switch = s .switch; deeds = s .deeds }
 
 pub table : (map see (rows ++ ours) ≡ map (λ r. r .want) (rows ++ ours)) × (map counted lists ≡ lists)
-unfolding rows ours lists joined when firstOr every padded causeOf rowOf isAccepted checked isSound formLengths pitchesListed pitchesOk unitsOf runsFrom runs unitsTotal printableFrom printable edgeFrom fcbCheck channelAt startFcb formsOf formsInRange entered round upToFirst spaced skipped moved still toTop slotAt putSlot isLoaded serving unprintable standIn cellOf translated anyUnprintable lineCells mergeRules mergeCell collides mergeLine anyCollides lineAt putLine pageWritten noCauses lineCauses orUnmatched causeByte startTable startTables startSlots slotsInRange tableCheck pairsOf copiesOf sequenceCheck markIn numberCheck withSequence withReference startCopies copyCount copyNumber copyMark copiesInRange segmentOf badHead cut segments legendCheck storedLegends legendText storedSegments legendsOk noLegends covers shown copyFrom composed sizesOk linesNow started codes lookUp decode controlTraits traitsOf fixedOk lineOk rangesOk dueOk markOk coreOk blankSheet noCells resetState resetStores reset fresh byte3 senseBytes refused done movedSheet moveOf doMove marked written writeCauses doWrite loadCheck atLine1 slotLoaded slotSelected loaded loadCauses doLoad completing doControl doCommand checkOf movement refusalOf composedCopy doCompose emptied released doRelease perform effect step startRefusal startWorld noState noPrinter startOutcome worldAfter counts readOf deedOf finishesReset sinceNow note sinceOver sinceReset copiesOfPage copyAt given
+unfolding rows ours lists joined zipped when firstOr every padded causeOf rowOf isAccepted checked isSound formLengths pitchesListed pitchesOk formOk unitsOf runsFrom runs unitsTotal linesWhere printable edges fcbCheck channelAt startFcb formsOf formsInRange entered round upToFirst spaced skipped moved still toTop slotAt putSlot isLoaded serving unprintable standIn cellOf translated anyUnprintable lineCells mergeRules mergeCell collides mergeLine anyCollides lineAt putLine pageWritten noCauses lineCauses orUnmatched causeByte startTable startTables startSlots slotsInRange tableCheck pairsOf copiesOf sequenceCheck markIn numberCheck withSequence withReference startCopies copyCount copyNumber copyMark copiesInRange segmentOf badHead cut segments legendCheck storedLegends legendText storedSegments legendsOk noLegends covers shown copyFrom composed sizesOk linesNow started codes lookUp decode controlTraits traitsOf lineOk rangesOk dueOk markOk coreOk blankSheet noCells resetState resetStores reset fresh byte3 senseBytes refused done movedSheet moveOf doMove marked written writeCauses doWrite loadCheck atLine1 slotLoaded slotSelected loaded loadCauses doLoad completing doControl doCommand checkOf movement refusalOf copyAt doCompose emptied released doRelease perform effect step startRefusal startWorld noState noPrinter startOutcome worldAfter counts readOf deedOf finishesReset sinceNow note sinceOver sinceReset copiesOfPage given
 table = (refl, refl)

@@ -90,17 +90,26 @@ testsOf k release = releaseTests k
 unfoldable pub refusalOf : Core → Call → Refusal
 refusalOf k c = firstOr Accepted (testsOf k c)
 
--- Copies and legends: the copy with index n, composed. Calls: Compose answers its number and overlay mark.
-unfoldable pub composedCopy : Core → ℕ → List ℕ
-composedCopy k n = composed (k .stores .page) (k .stores .legends) (P (k .state)) (copyNumber (k .state .copies) n)
+-- Copies and legends: the copy with index n of the page: its number, its overlay mark, its composed cells.
+pub record Copy : Type 0 where
+  pub number : ℕ
+  pub mark : ℕ
+  pub cells : List ℕ
 
+unfoldable pub copyAt : Core → ℕ → Copy
+copyAt k n =
+    let number = copyNumber (k .state .copies) n in
+    record { number = number; mark = copyMark (k .state .copies) n; cells = composed (k .stores .page) (k .stores .legends) (P (k .state)) number }
+
+-- Calls: Compose answers the copy's number and mark, and writes its cells.
 unfoldable pub doCompose : Core → ℕ → Effect
 doCompose k n =
+    let c = copyAt k n in
     record {
-      answer = record { refusal = Accepted; status = 0; ready = false; lines = 0; copy = copyNumber (k .state .copies) n; mark = copyMark (k .state .copies) n };
+      answer = record { refusal = Accepted; status = 0; ready = false; lines = 0; copy = c .number; mark = c .mark };
       core = k;
       sense = keep;
-      front = λ s. composedCopy k n;
+      front = λ s. c .cells;
     }
 
 -- Movement, Reset and sense: Release empties the page and, where a reset is due, does it.

@@ -4,28 +4,24 @@ use Prim.Native.Nat.{ℕ}
 use mathlib.Core.Bool.{Bool, not, _&&_, _||_}
 use mathlib.Core.List.{List, [], _∷_}
 use lib.Dec.{leb}
-use Rattle.seq.specs.Words.{every, listed}
+use Rattle.seq.specs.Words.{every}
 use Rattle.numbers.specs.Numbers.{isSound}
-use Rattle.form.specs.Form.{formLengths, pitchesOk, fcbCheck, fcbNow, formsInRange}
+use Rattle.form.specs.Form.{formOk, fcbCheck, fcbNow, formsInRange}
 use Rattle.line.specs.Line.{slotsInRange}
 use Rattle.copies.specs.Copies.{sequenceCheck, sequenceNow, copiesInRange}
 use Rattle.copies.specs.Legends.{legendsOk}
-use Rattle.calls.specs.declared.Fixed.{Fixed}
 use Rattle.calls.specs.declared.Sheet.{Sheet}
 use Rattle.calls.specs.declared.State.{State}
 use Rattle.calls.specs.Core.{Core, sizesOk, P}
 
--- Ranges of the fields: form and pitches are listed ones, the current line is one of the P.
-unfoldable pub fixedOk : Fixed → Bool
-fixedOk f = every (listed formLengths (f .length) ∷ pitchesOk (f .pitches) ∷ [])
-
+-- Ranges of the fields: form and pitches are such as Start takes, the current line is one of the P.
 unfoldable pub lineOk : ℕ → Sheet → Bool
 lineOk p s = every (leb 1 (s .line) ∷ leb (s .line) p ∷ [])
 
 unfoldable pub rangesOk : State → Bool
 rangesOk s =
     every
-    (fixedOk (s .fixed)
+    (formOk (s .fixed .length) (s .fixed .pitches)
     ∷ formsInRange (s .forms)
     ∷ slotsInRange (s .slots)
     ∷ copiesInRange (s .copies)

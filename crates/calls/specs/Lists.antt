@@ -5,18 +5,14 @@ use mathlib.Core.List.{List, [], _∷_, _++_, map}
 use Rattle.seq.specs.Words.{every, from}
 use Rattle.numbers.specs.declared.Answer.{Answer}
 use Rattle.numbers.specs.Numbers.{isAccepted}
-use Rattle.copies.specs.Copies.{copyCount, copyNumber, copyMark}
+use Rattle.copies.specs.Copies.{copyCount}
 use Rattle.calls.specs.declared.Command.{Command}
 use Rattle.calls.specs.declared.Command.the-variants.{Write, Move, Controls, Loads, Unlisted}
 use Rattle.calls.specs.Core.{Core, World, started}
 use Rattle.calls.specs.Commands.{decode, traitsOf}
-use Rattle.calls.specs.Calls.{Call, command, compose, release, refusalOf, composedCopy, effect, Outcome, step}
+use Rattle.calls.specs.Calls.{Call, command, compose, release, refusalOf, Copy, copyAt, effect, step}
 
--- Calls: what each call of a list gives, when it gets what the one before it left; and what the last one leaves.
-unfoldable pub outcomes : World → List Call → List Outcome
-outcomes w [] = []
-outcomes w (c ∷ cs) = step w c ∷ outcomes (step w c .world) cs
-
+-- Calls: what a list of calls leaves, where each gets what the one before it left.
 unfoldable pub worldAfter : World → List Call → World
 worldAfter w [] = w
 worldAfter w (c ∷ cs) = worldAfter (step w c .world) cs
@@ -51,32 +47,21 @@ finishesReset k (command b r reply) =
 finishesReset k (compose n out) = false
 finishesReset k release = every (counts k release ∷ k .state .sheet .due ∷ [])
 
--- Demand 3: the copies of a page, each with its copy number and overlay mark.
-pub record Copy : Type 0 where
-  pub number : ℕ
-  pub mark : ℕ
-  pub cells : List ℕ
-
-unfoldable pub copyAt : Core → ℕ → Copy
-copyAt k n = record { number = copyNumber (k .state .copies) n; mark = copyMark (k .state .copies) n; cells = composedCopy k n }
-
+-- Demand 3: all copies of a page, each with its copy number and overlay mark.
 unfoldable pub copiesOfPage : Core → List Copy
 copiesOfPage k = map (copyAt k) (from 1 (copyCount (k .state .copies)))
 
--- Demand 3: the copies of each page that a list of calls completes, page after page.
-unfoldable pub pagesOf : World → List Call → List (List Copy)
-pagesOf w [] = []
-pagesOf w (c ∷ cs) =
-    let rest = pagesOf (step w c .world) cs in
-    cond (step w c .answer .ready) (copiesOfPage (step w c .world .core) ∷ rest) rest
-
--- Demand 3: what a call gave: its answer, and all copies of the page that it completed, if it did.
+-- Demand 3: what a call gave: its answer, and all copies of the page that it completed, if it did; and what each call of a list gave.
 pub record Given : Type 0 where
   pub answer : Answer
   pub page : List Copy
 
 unfoldable pub given : Core → Call → Given
 given k c = let e = effect k c in record { answer = e .answer; page = cond (e .answer .ready) (copiesOfPage (e .core)) [] }
+
+unfoldable pub gives : Core → List Call → List Given
+gives k [] = []
+gives k (c ∷ cs) = given k c ∷ gives (effect k c .core) cs
 
 -- Demand 3: the data-check switch at the latest finished reset, and what counts since, with what each gave. The call that finishes a reset
 -- is the reset, and not since it.

@@ -1,14 +1,14 @@
 -- Document 01, "Calls" and "Numbers": Start, and what a refused Start hands back.
 use Prim.Native.Nat.{ℕ}
-use mathlib.Core.Bool.{false, cond, not, _&&_}
+use mathlib.Core.Bool.{false, cond, not}
 use mathlib.Core.Option.{Option}
 use mathlib.Core.List.{List, [], _∷_}
 use lib.ListN.{replicate}
-use Rattle.seq.specs.Words.{when, firstOr, listed, zeros}
+use Rattle.seq.specs.Words.{when, firstOr, zeros}
 use Rattle.numbers.specs.declared.Refusal.{Refusal}
 use Rattle.numbers.specs.declared.Refusal.the-variants.{Accepted, BadStore, BadForm}
 use Rattle.numbers.specs.Numbers.{noSense, isAccepted, only}
-use Rattle.form.specs.Form.{formLengths, pitchesOk, fcbSize}
+use Rattle.form.specs.Form.{formOk, fcbSize}
 use Rattle.copies.specs.Copies.{pairSize}
 use Rattle.calls.specs.declared.State.{State}
 use Rattle.calls.specs.Core.{Stores, sizesOk, World}
@@ -19,7 +19,7 @@ use Rattle.calls.specs.Calls.{Outcome}
 abbrev pub startTests : ℕ → List ℕ → Stores → List (Option Refusal)
 startTests len ps m =
     when (not (sizesOk m)) BadStore
-    ∷ when (not (listed formLengths len && pitchesOk ps)) BadForm
+    ∷ when (not (formOk len ps)) BadForm
     ∷ []
 
 unfoldable pub startRefusal : ℕ → List ℕ → Stores → Refusal

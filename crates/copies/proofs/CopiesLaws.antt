@@ -6,9 +6,9 @@ use mathlib.Core.List.{List, [], _∷_, map}
 use native.Mathlib.Omega.{arith}
 use lib.ListN.{length, getD, replicate}
 use lib.Dec.{eqb, leb}
-use borrow.Author.Tests.{eqb-true, eqb-false, leb-true, ltb-false}
+use borrow.Author.Tests.{eqb-true, eqb-false, leb-true, ltb-false, not-true, not-false}
 use Rattle.seq.specs.Words.{any, when, firstOr, joined, zeros}
-use Rattle.seq.proofs.Laws.{and-left, and-right, or-right, not-true, not-false, passed}
+use Rattle.seq.proofs.Laws.{and-left, and-right, or-right, passed}
 use Rattle.numbers.specs.declared.Cause.the-variants.{SequencePairs, SequenceCounts, NumberRecord}
 use Rattle.numbers.specs.declared.Checked.the-variants.{Sound, Faulty}
 use Rattle.numbers.proofs.Laws.{faulty}

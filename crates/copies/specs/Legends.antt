@@ -45,7 +45,7 @@ segmentOf s =
 abbrev pub segmentLength : List ℕ → ℕ
 segmentLength s = headSize + getD s 5 0
 
--- What the six bytes may not say.
+-- Six bytes that are faulty: a zero among them, or a first position plus positions that is not from 2 to 205.
 unfoldable pub badHead : List ℕ → Bool
 badHead s = any (λ b. eqb b 0) (take headSize s) || not (leb 2 (getD s 4 0 + getD s 5 0) && leb (getD s 4 0 + getD s 5 0) 205)
 

@@ -5,9 +5,9 @@ use mathlib.Core.Bool.{Bool, true, false, cond, not, _&&_, true≢false}
 use mathlib.Core.List.{List, [], _∷_}
 use native.Mathlib.Omega.{arith}
 use lib.Dec.{eqb, leb}
-use borrow.Author.Tests.{eqb-true, le-leb}
+use borrow.Author.Tests.{eqb-true, le-leb, not-false}
 use Rattle.seq.specs.Words.{any}
-use Rattle.seq.proofs.Laws.{or-left, or-right, not-false, and-both}
+use Rattle.seq.proofs.Laws.{or-left, or-right, and-both}
 use Rattle.numbers.specs.declared.Checked.the-variants.{Sound}
 use Rattle.form.specs.Form.{upper, unitsOf, units, halfInch, runsFrom, runs, otherUpper, fcbCheck}
 use Rattle.form.proofs.FormLaws.{Passes, passes, first-upper, rest-upper}

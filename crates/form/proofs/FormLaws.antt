@@ -6,14 +6,14 @@ use mathlib.Core.List.{List, [], _∷_, _++_, map}
 use native.Mathlib.Omega.{arith}
 use lib.ListN.{length, set, replicate, length-replicate, replicate-append-replicate}
 use lib.Dec.{eqb, leb, ltb, lit≤}
-use borrow.Author.Tests.{ltb-true, lt-ltb, leb-true, leb-false, eqb-true}
+use borrow.Author.Tests.{ltb-true, lt-ltb, leb-true, leb-false, eqb-true, not-false}
 use Rattle.seq.specs.Words.{all, when, firstOr, listed, total, zeros, padded}
-use Rattle.seq.proofs.Laws.{and-left, and-right, or-left, or-right, not-false, listed-all, passed}
+use Rattle.seq.proofs.Laws.{and-left, and-right, or-left, or-right, listed-all, passed, every-at}
 use Rattle.numbers.specs.declared.Cause.the-variants.{FcbChannel, FcbSpacing, FcbSum, FcbEdge}
 use Rattle.numbers.specs.declared.Checked.the-variants.{Sound, Faulty}
 use Rattle.numbers.specs.Numbers.{isSound}
 use Rattle.numbers.proofs.Laws.{faulty, sound-is}
-use Rattle.form.specs.Form.{formLengths, upper, unitsOf, units, runs, runsFrom, unitsTotal, between, printableFrom, printable, edgeFrom, badChannel, otherUpper, oddRun, fcbCheck, channelAt, startFcb, formsOf}
+use Rattle.form.specs.Form.{formLengths, formOk, upper, unitsOf, units, runs, runsFrom, unitsTotal, between, linesWhere, printable, edges, badChannel, otherUpper, oddRun, fcbCheck, channelAt, startFcb, formsOf}
 
 -- What the four checks found.
 pub record Passes (len : ℕ) (f : List ℕ) : Type 0 where
@@ -63,7 +63,11 @@ first-upper b bs h = or-left (eqb (units b) 0) (otherUpper bs) h
 pub rest-upper : (b : ℕ) (bs : List ℕ) → otherUpper (b ∷ bs) ≡ false → otherUpper bs ≡ false
 rest-upper b bs h = or-right (eqb (units b) 0) (otherUpper bs) h
 
--- Forms are 72 to 288 units long.
+-- A form that Start takes has a listed length; forms are 72 to 288 units long.
+pub form-listed : (len : ℕ) (ps : List ℕ) → formOk len ps ≡ true → listed formLengths len ≡ true
+unfolding formOk
+form-listed len ps e = every-at 0 _ e
+
 pub short-form : (n : ℕ) → listed formLengths n ≡ true → n ≤ 288
 unfolding formLengths
 short-form n e = leb-true n 288 (listed-all (λ m. leb m 288) n formLengths refl e)
@@ -88,11 +92,11 @@ few-step len off u b rest true e two ih =
     omega arith
 few-step len off u b rest false e two ih = omega arith
 
-few-from : (len off : ℕ) (f : List ℕ) → otherUpper f ≡ false → 2 * length (printableFrom len off f) ≤ (len - 11) - max off 12
-unfolding printableFrom
+few-from : (len off : ℕ) (f : List ℕ) → otherUpper f ≡ false → 2 * length (linesWhere (between len) off f) ≤ (len - 11) - max off 12
+unfolding linesWhere
 few-from len off [] h = omega arith
 few-from len off (b ∷ bs) h =
-    few-step len off (units b) b (printableFrom len (off + units b) bs) (between len off) refl
+    few-step len off (units b) b (linesWhere (between len) (off + units b) bs) (between len off) refl
     (two-units (upper b) (first-upper b bs h)) (few-from len (off + units b) bs (rest-upper b bs h))
 
 -- a form goes on past its first half inch
@@ -103,11 +107,11 @@ some-step : (b : ℕ) (rest : List ℕ) (t : Bool) → (t ≡ false → 1 ≤ le
 some-step b rest true h = omega arith
 some-step b rest false h = h refl
 
-some-from : (len off : ℕ) (f : List ℕ) → 72 ≤ len → off < len - 12 → off + unitsTotal f ≡ len → 1 ≤ length (printableFrom len off f)
-unfolding unitsTotal printableFrom
+some-from : (len off : ℕ) (f : List ℕ) → 72 ≤ len → off < len - 12 → off + unitsTotal f ≡ len → 1 ≤ length (linesWhere (between len) off f)
+unfolding unitsTotal linesWhere
 some-from len off [] h l e = absurd (omega arith)
 some-from len off (b ∷ bs) h l e =
-    some-step b (printableFrom len (off + units b) bs) (between len off)
+    some-step b (linesWhere (between len) (off + units b) bs) (between len off)
     (λ t. some-from len (off + units b) bs h (omega (arith, above len off l t, four-units (upper b))) (omega arith))
 
 module _ (len : ℕ) (f : List ℕ) (l : listed formLengths len ≡ true) (e : fcbCheck len f ≡ Sound) where
@@ -122,16 +126,16 @@ module _ (len : ℕ) (f : List ℕ) (l : listed formLengths len ≡ true) (e : f
   unfolding printable
   some-line = some-from len 0 f (long-form len l) (omega (arith, long-form len l)) (omega (arith, passes len f e .sum))
 
--- The starting FCB of every form: its load takes it, its channel 1 is at line 1, and P is a sixth of an inch less an inch.
+-- The starting FCB of every form: its load takes it, its channel 1 is at line 1, and it has six lines for each inch but one.
 abbrev starts : ℕ → Bool
 starts n = isSound (fcbCheck n (startFcb n)) && eqb (channelAt (printable n (startFcb n)) 1) 1
 
 pub starting-fcb : all starts formLengths ≡ true
-unfolding formLengths fcbCheck runs runsFrom unitsTotal unitsOf edgeFrom startFcb firstOr when isSound channelAt printable printableFrom
+unfolding formLengths fcbCheck runs runsFrom unitsTotal unitsOf linesWhere edges startFcb firstOr when isSound channelAt printable
 starting-fcb = refl
 
 pub starting-P : map (λ n. length (printable n (startFcb n))) formLengths ≡ 15 ∷ 27 ∷ 36 ∷ 45 ∷ 60 ∷ 12 ∷ 18 ∷ 30 ∷ 42 ∷ 54 ∷ 66 ∷ []
-unfolding formLengths printable printableFrom startFcb unitsOf
+unfolding formLengths printable linesWhere startFcb unitsOf
 starting-P = refl
 
 pub start-sound : (len : ℕ) → listed formLengths len ≡ true → fcbCheck len (startFcb len) ≡ Sound
@@ -171,5 +175,5 @@ pub fcb-table : map (fcbCheck 84)
     ∷ zeros 21 ∷ replicate 28 0x10 ∷ replicate 42 0x30 ∷ (zeros 6 ++ replicate 20 0x10)
     ∷ [])
     ≡ Faulty FcbChannel ∷ Faulty FcbSpacing ∷ Faulty FcbSpacing ∷ Faulty FcbSum ∷ Faulty FcbSum ∷ Faulty FcbEdge ∷ Faulty FcbEdge ∷ Sound ∷ Sound ∷ Sound ∷ Sound ∷ []
-unfolding fcbCheck runs runsFrom unitsTotal unitsOf edgeFrom firstOr when
+unfolding fcbCheck runs runsFrom unitsTotal unitsOf linesWhere edges firstOr when
 fcb-table = refl

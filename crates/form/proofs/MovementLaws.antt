@@ -6,9 +6,9 @@ use mathlib.Core.List.{List, [], _∷_, _++_, map}
 use native.Mathlib.Omega.{arith}
 use lib.ListN.{length, length-append, length-map}
 use lib.Dec.{ltb, lit≤}
-use borrow.Author.Tests.{ltb-true}
+use borrow.Author.Tests.{ltb-true, not-true}
 use Rattle.seq.specs.Words.{any, lastOr, from, zeros}
-use Rattle.seq.proofs.Laws.{or-left, or-right, not-true, length-from, cond-has}
+use Rattle.seq.proofs.Laws.{or-left, or-right, length-from, cond-has}
 use Rattle.form.specs.declared.Motion.{Motion}
 use Rattle.form.specs.declared.Motion.the-variants.{Space, Skip}
 use Rattle.form.specs.declared.Moved.{Moved}

@@ -22,6 +22,10 @@ pitchesListed = 0 ∷ 10 ∷ 12 ∷ 15 ∷ []
 unfoldable pub pitchesOk : List ℕ → Bool
 pitchesOk ps = all (listed pitchesListed) ps && not (eqb (getD ps 0 0) 0)
 
+-- A form length and pitches that Start takes, and that a printer can have.
+unfoldable pub formOk : ℕ → List ℕ → Bool
+formOk len ps = every (listed formLengths len ∷ pitchesOk ps ∷ [])
+
 -- An FCB byte stands for a line: spacing in its upper half, channel in its lower, 0 if it has none.
 abbrev pub upper : ℕ → ℕ
 upper b = b / 16
@@ -59,18 +63,17 @@ unitsTotal f = total (map units f)
 abbrev pub between : ℕ → ℕ → Bool
 between len off = leb halfInch off && ltb off (len - halfInch)
 
--- The bytes of the printable lines, the first line `off` units down; P is their number.
-unfoldable pub printableFrom : ℕ → ℕ → List ℕ → List ℕ
-printableFrom len off [] = []
-printableFrom len off (b ∷ bs) = let rest = printableFrom len (off + units b) bs in cond (between len off) (b ∷ rest) rest
+-- The bytes of the lines that start where `t` says; the first of them starts `off` units down.
+unfoldable pub linesWhere : (ℕ → Bool) → ℕ → List ℕ → List ℕ
+linesWhere t off [] = []
+linesWhere t off (b ∷ bs) = let rest = linesWhere t (off + units b) bs in cond (t off) (b ∷ rest) rest
 
+-- The printable lines, numbered from 1, P in all; and those in the first and last half inch.
 unfoldable pub printable : ℕ → List ℕ → List ℕ
-printable len f = printableFrom len 0 f
+printable len f = linesWhere (between len) 0 f
 
--- The bytes of the lines in the first and last half inch.
-unfoldable pub edgeFrom : ℕ → ℕ → List ℕ → List ℕ
-edgeFrom len off [] = []
-edgeFrom len off (b ∷ bs) = let rest = edgeFrom len (off + units b) bs in cond (between len off) rest (b ∷ rest)
+unfoldable pub edges : ℕ → List ℕ → List ℕ
+edges len f = linesWhere (λ off. not (between len off)) 0 f
 
 -- The checks of the paper's list of four, by name.
 abbrev pub badChannel : List ℕ → Bool
@@ -84,7 +87,7 @@ abbrev pub oddRun : List ℕ → Bool
 oddRun f = any (λ n. not (eqb (n % halfInch) 0)) (runs f)
 
 abbrev pub edgeChannel : ℕ → List ℕ → Bool
-edgeChannel len f = any (λ b. not (eqb (channel b) 0)) (edgeFrom len 0 f)
+edgeChannel len f = any (λ b. not (eqb (channel b) 0)) (edges len f)
 
 -- All four, in the order of the list.
 unfoldable pub fcbCheck : ℕ → List ℕ → Checked

@@ -1,12 +1,12 @@
 -- Writing keeps the stores' sizes; and the manual's table of merges, row by row.
-use Prim.Native.Nat.{ℕ, suc, _+_, _*_, _-_, _≤_}
-use mathlib.Core.Path.{_≡_, refl, sym, ap, _∙_}
+use Prim.Native.Nat.{ℕ, _+_, _*_, _-_, _≤_}
+use mathlib.Core.Path.{_≡_, refl, sym, _∙_}
 use mathlib.Core.Bool.{Bool, true, false}
 use mathlib.Core.List.{List, [], _∷_, _++_, map}
 use native.Mathlib.Omega.{arith}
 use lib.ListN.{length, length-append, length-take, length-drop, length-replicate, length-map}
 use Rattle.seq.specs.Words.{when, firstOr}
-use Rattle.seq.proofs.Laws.{cond-has}
+use Rattle.seq.proofs.Laws.{cond-has, length-zipped}
 use Rattle.line.specs.declared.Causes.{Causes}
 use Rattle.line.specs.Line.{causeByte, lineWidth, slotSize, tableSize, putSlot, translated, lineCells, mergeRules, mergeCell, collides, mergeLine, lineAt, putLine, pageWritten, startTable, startTables}
 
@@ -20,9 +20,7 @@ length-lineCells ps t r h = simp (length-append, length-translated, length-repli
 
 length-mergeLine : (old new : List ℕ) → length old ≡ length new → length (mergeLine old new) ≡ length old
 unfolding mergeLine
-length-mergeLine [] new e = refl
-length-mergeLine (o ∷ old) [] e = sym e
-length-mergeLine (o ∷ old) (n ∷ new) e = ap suc (length-mergeLine old new (omega arith))
+length-mergeLine old new e = length-zipped mergeCell old new e
 
 module _ (l : ℕ) (p : List ℕ) (first : 1 ≤ l) (inside : 204 * l ≤ length p) where
   length-lineAt : length (lineAt l p) ≡ lineWidth

@@ -74,7 +74,7 @@ impl Printer {
     };
 
     // The starting FCB of a listed form: 6 lines per inch, with channel 1 at line 1.
-    pub fn start_forms(length: u16) -> Forms
+    fn start_forms(length: u16) -> Forms
         requires { ⌜ listed formLengths length ≡ true ⌝ }
         ensures { λ r. ⌜ r ≡ formsOf (startFcb length) ⌝ }
     {
@@ -87,7 +87,7 @@ impl Printer {
     }
 
     // The starting state on a listed form, which a reset puts back; the check switch stays.
-    pub fn start_state(fixed: Fixed, blocked: bool) -> State
+    fn start_state(fixed: Fixed, blocked: bool) -> State
         requires { ⌜ listed formLengths (fixed .length) ≡ true ⌝ }
         ensures { λ r. ⌜ r ≡ resetState fixed blocked ⌝ }
     {

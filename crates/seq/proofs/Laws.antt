@@ -1,7 +1,7 @@
 -- Laws on tests and lists, each named after what it says.
 use Prim.Native.Nat.{ℕ, zero, suc, _-_, _≤_}
 use mathlib.Core.Path.{_≡_, refl, sym, ap, _∙_}
-use mathlib.Core.Bool.{Bool, true, false, cond, not, _&&_, _||_, true≢false, false≢true}
+use mathlib.Core.Bool.{Bool, true, false, cond, _&&_, _||_, true≢false, false≢true}
 use mathlib.Core.Option.{Option, none, some}
 use mathlib.Core.List.{List, [], _∷_}
 use native.Mathlib.Omega.{arith}
@@ -9,7 +9,7 @@ use lib.ListN.{length, getD, take, length-append, length-replicate}
 use lib.Seq.{take-at, drop-at}
 use lib.Dec.{eqb}
 use borrow.Author.Tests.{eqb-true}
-use Rattle.seq.specs.Words.{all, when, firstOr, every, listed, from, zeros, padded, zeroFrom}
+use Rattle.seq.specs.Words.{all, zipped, when, firstOr, every, listed, from, zeros, padded, zeroFrom}
 
 -- both parts of a true &&, both of a false ||
 pub and-left : (a b : Bool) → (a && b) ≡ true → a ≡ true
@@ -24,10 +24,6 @@ pub and-both : {a b : Bool} → a ≡ true → b ≡ true → (a && b) ≡ true
 and-both {a = true} e h = h
 and-both {a = false} e h = e
 
-pub and-false : (b : Bool) → (b && false) ≡ false
-and-false true = refl
-and-false false = refl
-
 pub or-left : (a b : Bool) → (a || b) ≡ false → a ≡ false
 or-left true b e = absurd (true≢false e)
 or-left false b e = refl
@@ -35,18 +31,6 @@ or-left false b e = refl
 pub or-right : (a b : Bool) → (a || b) ≡ false → b ≡ false
 or-right true b e = absurd (true≢false e)
 or-right false b e = e
-
-pub or-true : (b : Bool) → (b || true) ≡ true
-or-true true = refl
-or-true false = refl
-
-pub not-true : (a : Bool) → not a ≡ true → a ≡ false
-not-true true e = sym e
-not-true false e = refl
-
-pub not-false : (a : Bool) → not a ≡ false → a ≡ true
-not-false true e = refl
-not-false false e = sym e
 
 -- what holds of both choices holds of the chosen one
 pub cond-has : {A : Type 0} (P : A → Type 0) (t : Bool) {a b : A} → (t ≡ true → P a) → (t ≡ false → P b) → P (cond t a b)
@@ -109,6 +93,13 @@ module _ {A : Type 0} where
 pub length-from : (a n : ℕ) → length (from a n) ≡ n
 length-from a zero = refl
 length-from a (suc n) = ap suc (length-from (suc a) n)
+
+-- two lists of one length put together
+pub length-zipped : {A : Type 0} (f : ℕ → ℕ → A) (xs ys : List ℕ) → length xs ≡ length ys → length (zipped f xs ys) ≡ length xs
+unfolding zipped
+length-zipped f [] ys e = refl
+length-zipped f (x ∷ xs) [] e = sym e
+length-zipped f (x ∷ xs) (y ∷ ys) e = ap suc (length-zipped f xs ys (omega arith))
 
 -- lists padded with 00
 pub zeros-all : (n : ℕ) → all (λ b. eqb b 0) (zeros n) ≡ true
