@@ -1,1 +1,82 @@
-// No code yet: the words and laws on lists that every floor's definitions and proofs cite.
+// Loops over slices that every floor uses.
+ghost use mathlib.Core.Path.{_≡_};
+ghost use mathlib.Core.Bool.{cond, not};
+ghost use Prim.Native.Nat.{_≤_};
+ghost use lib.Dec.{eqb};
+ghost use lib.ListN.{length, replicate};
+ghost use Rattle.seq.specs.Words.{any, all, bit};
+
+// A byte as an index.
+pub fn wide(b: u8) -> usize
+    ensures { λ r. ⌜ (r ≡ b) × (r ≤ 255) ⌝ }
+{
+    b as usize
+}
+
+pub fn pick(test: bool, a: u8, b: u8) -> u8
+    ensures { λ r. ⌜ r ≡ cond test a b ⌝ }
+{
+    if test {
+        return a;
+    }
+    b
+}
+
+// v if the test holds, else 0.
+pub fn flag(test: bool, v: u8) -> u8
+    ensures { λ r. ⌜ (r ≡ bit test v) × (r ≤ v) ⌝ }
+{
+    if test {
+        return v;
+    }
+    0
+}
+
+pub fn copy_all(to: &mut [u8], from: &[u8])
+    requires { ⌜ length (now to) ≡ length (now from) ⌝ }
+    ensures { λ _. ⌜ now (to .exit) ≡ now (from .entry) ⌝ }
+{
+    let mut i = 0;
+    while i < to.len() {
+        to[i] = from[i];
+        i += 1;
+    }
+}
+
+pub fn fill(s: &mut [u8], v: u8)
+    ensures { λ _. ⌜ now (s .exit) ≡ replicate (length (now (s .entry))) v ⌝ }
+{
+    let mut i = 0;
+    while i < s.len() {
+        s[i] = v;
+        i += 1;
+    }
+}
+
+fn any_set(s: &[u8]) -> bool
+    ensures { λ r. ⌜ r ≡ any (λ b. not (eqb b 0)) (now (s .entry)) ⌝ }
+{
+    let mut set = false;
+    let mut i = 0;
+    while i < s.len() {
+        set = set | (s[i] != 0);
+        i += 1;
+    }
+    set
+}
+
+// In blocks of 256: an early end between blocks, no branch inside one.
+pub fn all_zero(s: &[u8]) -> bool
+    ensures { λ r. ⌜ r ≡ all (λ b. eqb b 0) (now (s .entry)) ⌝ }
+{
+    let n = s.len();
+    let mut at = 0;
+    while 256 <= n - at {
+        let end = at + 256;
+        if any_set(&s[at..end]) {
+            return false;
+        }
+        at = end;
+    }
+    !any_set(&s[at..n])
+}
