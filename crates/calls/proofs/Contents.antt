@@ -7,7 +7,7 @@ use mathlib.Core.List.{List, [], _∷_, _++_, map}
 use lib.ListN.{length, set, replicate}
 use Rattle.seq.specs.Words.{joined, when, firstOr, every, from, zeros, padded}
 use Rattle.numbers.specs.Numbers.{rowOf, numberOf, isSound}
-use Rattle.form.specs.Form.{formLengths, pitchesListed, pitchesOk, formOk, unitsOf, runsFrom, runs, unitsTotal, linesWhere, printable, edges, fcbCheck, startFcb, formsOf, formsInRange}
+use Rattle.form.specs.Form.{formLengths, pitchesListed, pitchesOk, formOk, unitsOf, runsFrom, runs, unitsTotal, linesWhere, printable, edges, fcbCheck, layoutCheck, layoutOf, startFcb, formsOf, formsInRange}
 use Rattle.line.specs.Line.{startTable, startTables, startSlots, slotsInRange}
 use Rattle.copies.specs.Copies.{pairsOf, copiesOf, sequenceCheck, startCopies, copiesInRange}
 use Rattle.copies.specs.Legends.{badHead, cut, segments, legendCheck, storedSegments, legendsOk, noLegends}
@@ -96,7 +96,7 @@ allowed =
 -- Broken contents break the one clause, and no other; what is allowed breaks none.
 pub each-alone : (map (λ b. clauses (b .core)) broken ≡ map (λ b. set (replicate 7 true) (b .clause) false) broken)
     × (map clauses allowed ≡ replicate 11 (replicate 7 true))
-unfolding broken allowed joined when firstOr every padded isSound formLengths pitchesListed pitchesOk formOk unitsOf runsFrom runs unitsTotal linesWhere printable edges fcbCheck startFcb formsOf formsInRange startTable startTables startSlots slotsInRange pairsOf copiesOf sequenceCheck startCopies copiesInRange badHead cut segments legendCheck storedSegments legendsOk noLegends sizesOk linesNow lineOk rangesOk dueOk markOk blankSheet noCells resetState resetStores fresh
+unfolding broken allowed joined when firstOr every padded isSound formLengths pitchesListed pitchesOk formOk unitsOf runsFrom runs unitsTotal linesWhere printable edges fcbCheck layoutCheck layoutOf startFcb formsOf formsInRange startTable startTables startSlots slotsInRange pairsOf copiesOf sequenceCheck startCopies copiesInRange badHead cut segments legendCheck storedSegments legendsOk noLegends sizesOk linesNow lineOk rangesOk dueOk markOk blankSheet noCells resetState resetStores fresh
 each-alone = (refl, refl)
 
 -- All cell and table bytes are allowed. (So is all legend text: `stored-ok` holds whatever the text is translated to.)

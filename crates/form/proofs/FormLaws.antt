@@ -13,7 +13,7 @@ use Rattle.numbers.specs.declared.Cause.the-variants.{FcbChannel, FcbSpacing, F
 use Rattle.numbers.specs.declared.Checked.the-variants.{Sound, Faulty}
 use Rattle.numbers.specs.Numbers.{isSound}
 use Rattle.numbers.proofs.Laws.{faulty, sound-is}
-use Rattle.form.specs.Form.{formLengths, formOk, upper, unitsOf, units, runs, runsFrom, unitsTotal, between, linesWhere, printable, edges, badChannel, otherUpper, oddRun, fcbCheck, channelAt, startFcb, formsOf}
+use Rattle.form.specs.Form.{formLengths, formOk, upper, unitsOf, units, runs, runsFrom, unitsTotal, between, linesWhere, printable, edges, badChannel, otherUpper, oddRun, fcbCheck, layoutCheck, layoutOf, channelAt, startFcb, formsOf}
 
 -- What the four checks found.
 pub record Passes (len : ℕ) (f : List ℕ) : Type 0 where
@@ -23,7 +23,7 @@ pub record Passes (len : ℕ) (f : List ℕ) : Type 0 where
   pub sum : unitsTotal f ≡ len
 
 pub passes : (len : ℕ) (f : List ℕ) → fcbCheck len f ≡ Sound → Passes len f
-unfolding fcbCheck
+unfolding fcbCheck layoutCheck layoutOf
 passes len f e =
     let h₁ = passed _ _ faulty e in
     let h₂ = passed _ _ faulty (h₁ .1) in
@@ -131,7 +131,7 @@ abbrev starts : ℕ → Bool
 starts n = isSound (fcbCheck n (startFcb n)) && eqb (channelAt (printable n (startFcb n)) 1) 1
 
 pub starting-fcb : all starts formLengths ≡ true
-unfolding formLengths fcbCheck runs runsFrom unitsTotal unitsOf linesWhere edges startFcb firstOr when isSound channelAt printable
+unfolding formLengths fcbCheck layoutCheck layoutOf runs runsFrom unitsTotal unitsOf linesWhere edges startFcb firstOr when isSound channelAt printable
 starting-fcb = refl
 
 pub starting-P : map (λ n. length (printable n (startFcb n))) formLengths ≡ 15 ∷ 27 ∷ 36 ∷ 45 ∷ 60 ∷ 12 ∷ 18 ∷ 30 ∷ 42 ∷ 54 ∷ 66 ∷ []
@@ -175,5 +175,5 @@ pub fcb-table : map (fcbCheck 84)
     ∷ zeros 21 ∷ replicate 28 0x10 ∷ replicate 42 0x30 ∷ (zeros 6 ++ replicate 20 0x10)
     ∷ [])
     ≡ Faulty FcbChannel ∷ Faulty FcbSpacing ∷ Faulty FcbSpacing ∷ Faulty FcbSum ∷ Faulty FcbSum ∷ Faulty FcbEdge ∷ Faulty FcbEdge ∷ Sound ∷ Sound ∷ Sound ∷ Sound ∷ []
-unfolding fcbCheck runs runsFrom unitsTotal unitsOf linesWhere edges firstOr when
+unfolding fcbCheck layoutCheck layoutOf runs runsFrom unitsTotal unitsOf linesWhere edges firstOr when
 fcb-table = refl

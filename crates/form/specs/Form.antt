@@ -9,6 +9,7 @@ use Rattle.numbers.specs.declared.Cause.the-variants.{FcbChannel, FcbSpacing, F
 use Rattle.numbers.specs.declared.Checked.{Checked}
 use Rattle.numbers.specs.declared.Checked.the-variants.{Sound, Faulty}
 use Rattle.form.specs.declared.Forms.{Forms}
+use Rattle.form.specs.declared.Layout.{Layout}
 
 -- The form lengths in 24ths of an inch, which are our units: common-use, then ISO.
 unfoldable pub formLengths : List ℕ
@@ -89,15 +90,30 @@ oddRun f = any (λ n. not (eqb (n % halfInch) 0)) (runs f)
 abbrev pub edgeChannel : ℕ → List ℕ → Bool
 edgeChannel len f = any (λ b. not (eqb (channel b) 0)) (edges len f)
 
+-- All that the checks ask, each by its definition; and where the printable lines begin, with their number.
+unfoldable pub layoutOf : ℕ → List ℕ → Layout
+layoutOf len f =
+    record {
+      channel = badChannel f;
+      spacing = otherUpper f || oddRun f;
+      units = unitsTotal f;
+      edge = edgeChannel len f;
+      top = length (linesWhere (λ off. ltb off halfInch) 0 f);
+      lines = length (printable len f);
+    }
+
 -- All four, in the order of the list.
-unfoldable pub fcbCheck : ℕ → List ℕ → Checked
-fcbCheck len f =
+unfoldable pub layoutCheck : ℕ → Layout → Checked
+layoutCheck len w =
     firstOr Sound
-    (when (badChannel f) (Faulty FcbChannel)
-    ∷ when (otherUpper f || oddRun f) (Faulty FcbSpacing)
-    ∷ when (not (eqb (unitsTotal f) len)) (Faulty FcbSum)
-    ∷ when (edgeChannel len f) (Faulty FcbEdge)
+    (when (w .channel) (Faulty FcbChannel)
+    ∷ when (w .spacing) (Faulty FcbSpacing)
+    ∷ when (not (eqb (w .units) len)) (Faulty FcbSum)
+    ∷ when (w .edge) (Faulty FcbEdge)
     ∷ [])
+
+unfoldable pub fcbCheck : ℕ → List ℕ → Checked
+fcbCheck len f = layoutCheck len (layoutOf len f)
 
 -- The channel of a printable line, numbered from 1; ls are the bytes of the printable lines.
 unfoldable pub channelAt : List ℕ → ℕ → ℕ

@@ -6,6 +6,17 @@ pub struct Forms {
     pub count: u8,
 }
 
+// What one pass over an FCB finds: whether a channel or a spacing is bad, the units in all, whether an edge half inch has a channel,
+// the lines that start in the first half inch, and the printable ones.
+pub struct Layout {
+    pub channel: bool,
+    pub spacing: bool,
+    pub units: u16,
+    pub edge: bool,
+    pub top: u16,
+    pub lines: u16,
+}
+
 // What a command asks of the form: to space so many lines, or to skip to a channel.
 pub enum Motion {
     Space(u8),
