@@ -1,15 +1,16 @@
 -- Laws on tests and lists, each named after what it says.
-use Prim.Native.Nat.{ℕ, zero, suc, _-_, _≤_}
+use Prim.Native.Nat.{ℕ, zero, suc, _+_, _-_, _≤_, _<_, min}
 use mathlib.Core.Path.{_≡_, refl, sym, ap, _∙_}
 use mathlib.Core.Bool.{Bool, true, false, cond, _&&_, _||_, true≢false, false≢true}
 use mathlib.Core.Option.{Option, none, some}
-use mathlib.Core.List.{List, [], _∷_}
+use mathlib.Core.List.{List, [], _∷_, map}
+use native.Mathlib.Nat.{add-zero, sub-zero, zero-sub, suc-sub-suc, le-of-suc-le-suc, not-suc-le-zero}
 use native.Mathlib.Omega.{arith}
-use lib.ListN.{length, getD, take, length-append, length-replicate}
-use lib.Seq.{take-at, drop-at}
+use lib.ListN.{length, getD, take, drop, replicate, length-append, length-take, length-drop, length-replicate}
+use lib.Seq.{take-all, take-at, drop-at, drop-cons}
 use lib.Dec.{eqb}
-use borrow.Author.Tests.{eqb-true}
-use Rattle.seq.specs.Words.{all, zipped, when, firstOr, every, listed, from, zeros, padded, zeroFrom}
+use borrow.Author.Tests.{eqb-true, ne-eqb}
+use Rattle.seq.specs.Words.{all, empty, zipped, when, firstOr, every, listed, from, zeros, padded, zeroFrom}
 
 -- both parts of a true &&, both of a false ||
 pub and-left : (a b : Bool) → (a && b) ≡ true → a ≡ true
@@ -89,10 +90,65 @@ module _ {A : Type 0} where
   passed true ts n e = absurd (n e)
   passed false ts n e = (refl, e)
 
+  -- the first test holds; it does not
+  pub hit : {d x : A} {b : Bool} {ts : List (Option A)} → b ≡ true → First d (when b x ∷ ts) x
+  unfolding when
+  hit e = rw e here
+
+  pub pass : (x : A) {d y : A} {b : Bool} {ts : List (Option A)} → b ≡ false → First d ts y → First d (when b x ∷ ts) y
+  unfolding when
+  pass x e f = rw e (later f)
+
+-- a list with no element
+pub empty-length : (l : List ℕ) → eqb (length l) 0 ≡ empty l
+empty-length [] = refl
+empty-length (x ∷ l) = ne-eqb (suc (length l)) 0 (λ e. omega (arith, e))
+
+-- elements one by one: any part of a list, a list of four, the first six of one
+spelled : (a n : ℕ) (l : List ℕ) → a + n ≤ length l → map (λ k. getD l k 0) (from a n) ≡ take n (drop a l)
+spelled a zero l h = refl
+spelled a (suc n) l h = rw (drop-cons l a 0 (omega arith)) (ap (λ (r : List ℕ). getD l a 0 ∷ r) (spelled (suc a) n l (omega arith)))
+
+pub four : (l : List ℕ) → length l ≡ 4 → getD l 0 0 ∷ getD l 1 0 ∷ getD l 2 0 ∷ getD l 3 0 ∷ [] ≡ l
+four l e = spelled 0 4 l (omega (arith, e)) ∙ take-all 4 l (omega (arith, e))
+
+pub take-six : (l : List ℕ) → 6 ≤ length l → take 6 l ≡ getD l 0 0 ∷ getD l 1 0 ∷ getD l 2 0 ∷ getD l 3 0 ∷ getD l 4 0 ∷ getD l 5 0 ∷ []
+take-six l h = sym (spelled 0 6 l h)
+
+-- parts of a list: more than there are is all there are, and what goes to the end is all that is left
+pub take-least : (n : ℕ) (l : List ℕ) → take (min n (length l)) l ≡ take n l
+take-least n l = rw (← (length-take n l)) (go n l)
+  where
+    go : (n : ℕ) (l : List ℕ) → take (length (take n l)) l ≡ take n l
+    go zero l = refl
+    go (suc n) [] = refl
+    go (suc n) (x ∷ l) = ap (λ (m : List ℕ). x ∷ m) (go n l)
+
+pub drop-least : (n : ℕ) (l : List ℕ) → drop (min n (length l)) l ≡ drop n l
+drop-least n l = rw (← (length-take n l)) (go n l)
+  where
+    go : (n : ℕ) (l : List ℕ) → drop (length (take n l)) l ≡ drop n l
+    go zero l = refl
+    go (suc n) [] = refl
+    go (suc n) (x ∷ l) = go n l
+
+pub take-rest : (n : ℕ) (l : List ℕ) → take (length l - n) (drop n l) ≡ drop n l
+take-rest n l = take-all (length l - n) (drop n l) (omega (arith, length-drop n l))
+
+pub drop-replicate : (k n x : ℕ) → drop k (replicate n x) ≡ replicate (n - k) x
+drop-replicate zero n x = rw sub-zero refl
+drop-replicate (suc k) zero x = rw zero-sub refl
+drop-replicate (suc k) (suc n) x = rw suc-sub-suc (drop-replicate k n x)
+
 -- consecutive numbers
 pub length-from : (a n : ℕ) → length (from a n) ≡ n
 length-from a zero = refl
 length-from a (suc n) = ap suc (length-from (suc a) n)
+
+pub getD-from : (a k n : ℕ) → k < n → getD (from a n) k 0 ≡ a + k
+getD-from a k zero h = absurd (not-suc-le-zero h)
+getD-from a zero (suc n) h = sym (add-zero a)
+getD-from a (suc k) (suc n) h = getD-from (suc a) k n (le-of-suc-le-suc h) ∙ omega arith
 
 -- two lists of one length put together
 pub length-zipped : {A : Type 0} (f : ℕ → ℕ → A) (xs ys : List ℕ) → length xs ≡ length ys → length (zipped f xs ys) ≡ length xs
@@ -102,7 +158,7 @@ length-zipped f (x ∷ xs) [] e = sym e
 length-zipped f (x ∷ xs) (y ∷ ys) e = ap suc (length-zipped f xs ys (omega arith))
 
 -- lists padded with 00
-pub zeros-all : (n : ℕ) → all (λ b. eqb b 0) (zeros n) ≡ true
+zeros-all : (n : ℕ) → all (λ b. eqb b 0) (zeros n) ≡ true
 zeros-all zero = refl
 zeros-all (suc n) = zeros-all n
 

@@ -1,12 +1,12 @@
 -- What loops over lists have reached after n turns: start, step and end of each kind.
-use Prim.Native.Nat.{ℕ, zero, suc, _+_, _-_, _≤_, _<_, suc-le-suc, zero-le}
+use Prim.Native.Nat.{ℕ, zero, suc, _+_, _≤_, _<_}
 use mathlib.Core.Path.{_≡_, refl, sym, ap, _∙_}
 use mathlib.Core.Bool.{Bool, true, false, not, _&&_, _||_, or-false, or-assoc}
 use mathlib.Core.List.{List, [], _∷_, _++_, map, append-assoc}
-use native.Mathlib.Nat.{zero-add, add-zero, suc-add, le-of-suc-le-suc, not-suc-le-zero}
+use native.Mathlib.Nat.{le-of-suc-le-suc, not-suc-le-zero}
 use native.Mathlib.Numerals.{add-one}
 use native.Mathlib.Omega.{arith}
-use lib.ListN.{length, getD, take, drop, set, length-take, length-drop, length-append, take-append-drop, drop-of-length-le}
+use lib.ListN.{length, getD, take, drop, set, length-take, take-append-drop, drop-of-length-le}
 use lib.Seq.{take-all, drop-drop, take-add, take-at, drop-at}
 use Rattle.seq.specs.Words.{any, all, zipped}
 
@@ -25,12 +25,15 @@ length-filled (suc n) (x ∷ goal) [] = refl
 length-filled (suc n) (x ∷ goal) (y ∷ old) = ap suc (length-filled n goal old)
 
 -- what the next turn reads is still the old element
-pub getD-filled : (n : ℕ) (goal old : List ℕ) → getD (filled n goal old) n 0 ≡ getD old n 0
+pub reads-old : (n : ℕ) (goal old out : List ℕ) → out ≡ filled n goal old → getD out n 0 ≡ getD old n 0
 unfolding filled
-getD-filled zero goal old = refl
-getD-filled (suc n) [] old = refl
-getD-filled (suc n) (x ∷ goal) [] = refl
-getD-filled (suc n) (x ∷ goal) (y ∷ old) = getD-filled n goal old
+reads-old n goal old out e = ap (λ (l : List ℕ). getD l n 0) e ∙ go n goal old
+  where
+    go : (n : ℕ) (goal old : List ℕ) → getD (filled n goal old) n 0 ≡ getD old n 0
+    go zero goal old = refl
+    go (suc n) [] old = refl
+    go (suc n) (x ∷ goal) [] = refl
+    go (suc n) (x ∷ goal) (y ∷ old) = go n goal old
 
 filled-suc : (n : ℕ) (goal old : List ℕ) → n < length goal → set (filled n goal old) n (getD goal n 0) ≡ filled (suc n) goal old
 unfolding filled
@@ -48,25 +51,18 @@ filled-none goal old = refl
 pub filled-more : (n v : ℕ) (goal old out : List ℕ) → out ≡ filled n goal old → n < length goal → v ≡ getD goal n 0 → set out n v ≡ filled (n + 1) goal old
 filled-more n v goal old out e h w = rw (e, w, add-one) (filled-suc n goal old h)
 
-pub filled-is : (n : ℕ) (goal old : List ℕ) → length goal ≡ length old → filled n goal old ≡ take n goal ++ drop n old
+filled-is : (n : ℕ) (goal old : List ℕ) → length goal ≡ length old → filled n goal old ≡ take n goal ++ drop n old
 unfolding filled
 filled-is zero goal old l = refl
 filled-is (suc n) [] [] l = refl
-filled-is (suc n) [] (y ∷ old) l = absurd (not-suc-le-zero {n = 0} (omega (arith, l)))
-filled-is (suc n) (x ∷ goal) [] l = absurd (not-suc-le-zero {n = 0} (omega (arith, l)))
+filled-is (suc n) [] (y ∷ old) l = absurd (omega (arith, l))
+filled-is (suc n) (x ∷ goal) [] l = absurd (omega (arith, l))
 filled-is (suc n) (x ∷ goal) (y ∷ old) l = ap (λ (r : List ℕ). x ∷ r) (filled-is n goal old (omega (arith, l)))
-
--- where both agree before n, the loop may begin there
-pub filled-start : (n : ℕ) (goal old : List ℕ) → length goal ≡ length old → take n goal ≡ take n old → filled n goal old ≡ old
-filled-start n goal old l e = rw (filled-is n goal old l, e) (take-append-drop n old)
-
--- where both agree from n on, it may end there; at the end of the list they do
-pub filled-end : (n : ℕ) (goal old : List ℕ) → length goal ≡ length old → drop n goal ≡ drop n old → filled n goal old ≡ goal
-filled-end n goal old l e = rw (filled-is n goal old l, ← e) (take-append-drop n goal)
 
 pub filled-all : (n : ℕ) (goal old : List ℕ) → length goal ≡ length old → length old ≤ n → filled n goal old ≡ goal
 filled-all n goal old l h =
-    filled-end n goal old l (drop-of-length-le goal {i = n} (omega (arith, l, h)) ∙ sym (drop-of-length-le old h))
+    let e = drop-of-length-le goal {i = n} (omega (arith, l, h)) ∙ sym (drop-of-length-le old h) in
+    rw (filled-is n goal old l, ← e) (take-append-drop n goal)
 
 -- a turn that writes a block of m: `out` is the list at its head, ys what stands in the block after it
 pub filled-block : (n m : ℕ) (goal old out ys : List ℕ) → length goal ≡ length old → n + m ≤ length old → out ≡ filled n goal old → ys ≡ take m (drop n goal)
@@ -109,32 +105,11 @@ any-not-all f (x ∷ xs) = step (f x) (any (λ y. not (f y)) xs) (all f xs) (any
     step true b c e = e
     step false b c e = refl
 
--- A loop that carries something from element to element.
-unfoldable pub fold : {S : Type 0} → (S → ℕ → S) → S → List ℕ → S
-fold f s [] = s
-fold f s (x ∷ xs) = fold f (f s x) xs
-
-fold-suc : {S : Type 0} (f : S → ℕ → S) (s : S) (n : ℕ) (xs : List ℕ) → n < length xs → f (fold f s (take n xs)) (getD xs n 0) ≡ fold f s (take (suc n) xs)
-unfolding fold
-fold-suc f s n [] h = absurd (not-suc-le-zero h)
-fold-suc f s zero (x ∷ xs) h = refl
-fold-suc f s (suc n) (x ∷ xs) h = fold-suc f (f s x) n xs (le-of-suc-le-suc h)
-
-pub fold-none : {S : Type 0} (f : S → ℕ → S) (s : S) (xs : List ℕ) → s ≡ fold f s (take 0 xs)
-unfolding fold
-fold-none f s xs = refl
-
-pub fold-more : {S : Type 0} (f : S → ℕ → S) (s : S) (n : ℕ) (xs : List ℕ) → n < length xs → f (fold f s (take n xs)) (getD xs n 0) ≡ fold f s (take (n + 1) xs)
-fold-more f s n xs h = rw add-one (fold-suc f s n xs h)
-
-pub fold-all : {S : Type 0} (f : S → ℕ → S) (s : S) (n : ℕ) (xs : List ℕ) → length xs ≤ n → fold f s (take n xs) ≡ fold f s xs
-fold-all f s n xs h = ap (fold f s) (take-all n xs h)
-
 -- Elements of lists that a loop builds.
-pub getD-map : {A : Type 0} (f : A → ℕ) (d : A) (k : ℕ) (xs : List A) → k < length xs → getD (map f xs) k 0 ≡ f (getD xs k d)
-getD-map f d k [] h = absurd (not-suc-le-zero h)
-getD-map f d zero (x ∷ xs) h = refl
-getD-map f d (suc k) (x ∷ xs) h = getD-map f d k xs (le-of-suc-le-suc h)
+pub getD-map : {A B : Type 0} (f : A → B) (d : A) (e : B) (k : ℕ) (xs : List A) → k < length xs → getD (map f xs) k e ≡ f (getD xs k d)
+getD-map f d e k [] h = absurd (not-suc-le-zero h)
+getD-map f d e zero (x ∷ xs) h = refl
+getD-map f d e (suc k) (x ∷ xs) h = getD-map f d e k xs (le-of-suc-le-suc h)
 
 pub getD-zipped : {A : Type 0} (f : ℕ → ℕ → A) (d : A) (k : ℕ) (xs ys : List ℕ) → k < length xs → k < length ys
     → getD (zipped f xs ys) k d ≡ f (getD xs k 0) (getD ys k 0)

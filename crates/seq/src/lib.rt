@@ -1,10 +1,10 @@
-// Loops over slices that every floor uses.
+// Choices on bytes, parts of slices and loops over them, which every floor uses.
 ghost use mathlib.Core.Path.{_≡_};
 ghost use mathlib.Core.Bool.{cond, not};
-ghost use Prim.Native.Nat.{_≤_};
+ghost use Prim.Native.Nat.{_≤_, min};
 ghost use lib.Dec.{eqb};
-ghost use lib.ListN.{length, replicate};
-ghost use Rattle.seq.specs.Words.{any, all, bit};
+ghost use lib.ListN.{length, take, replicate};
+ghost use Rattle.seq.specs.Words.{any, all, bit, zeroFrom};
 
 // A byte as an index.
 pub fn wide(b: u8) -> usize
@@ -30,6 +30,23 @@ pub fn flag(test: bool, v: u8) -> u8
         return v;
     }
     0
+}
+
+pub fn least(a: usize, b: usize) -> usize
+    ensures { λ r. ⌜ r ≡ min a b ⌝ }
+{
+    if a < b {
+        return a;
+    }
+    b
+}
+
+// The first n elements, all of them where there are no more.
+pub fn front(s: &[u8], n: usize) -> &[u8]
+    ensures { λ r. ⌜ now r ≡ take n (now (s .entry)) ⌝ }
+{
+    let end = least(n, s.len());
+    &s[0..end]
 }
 
 pub fn copy_all(to: &mut [u8], from: &[u8])
@@ -66,7 +83,7 @@ fn any_set(s: &[u8]) -> bool
 }
 
 // In blocks of 256: an early end between blocks, no branch inside one.
-pub fn all_zero(s: &[u8]) -> bool
+fn all_zero(s: &[u8]) -> bool
     ensures { λ r. ⌜ r ≡ all (λ b. eqb b 0) (now (s .entry)) ⌝ }
 {
     let n = s.len();
@@ -79,4 +96,13 @@ pub fn all_zero(s: &[u8]) -> bool
         at = end;
     }
     !any_set(&s[at..n])
+}
+
+// Whether all is 00 from place n on.
+pub fn zero_from(s: &[u8], n: usize) -> bool
+    ensures { λ r. ⌜ r ≡ zeroFrom n (now (s .entry)) ⌝ }
+{
+    let end = s.len();
+    let at = least(n, end);
+    all_zero(&s[at..end])
 }

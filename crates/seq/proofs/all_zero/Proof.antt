@@ -1,13 +1,14 @@
 -- What was looked at is all 00, so the answer is that of what is left.
 use mathlib.Core.Path.{_≡_, refl, sym, ap, _∙_}
 use mathlib.Core.Bool.{Bool, true, not, _||_}
-use Prim.Native.Nat.{ℕ, _≤_, _-_, _+_}
+use Prim.Native.Nat.{ℕ, _≤_, _-_}
 use native.Mathlib.Nat.{add-sub-cancel-left}
 use lib.Dec.{eqb}
-use lib.ListN.{length, take, drop, length-drop}
-use lib.Seq.{take-all, drop-drop}
+use lib.ListN.{length, drop}
+use lib.Seq.{drop-drop}
 use borrow.Author.Needs.{needs}
 use Rattle.seq.specs.Words.{any}
+use Rattle.seq.proofs.Laws.{take-rest}
 use Rattle.seq.proofs.Loops.{any-split, any-not-all}
 use Rattle.seq.proofs.all_zero.Statement.{statement}
 use Rattle.seq.proofs.all_zero.Tie as tie
@@ -49,8 +50,7 @@ returns-2 : tie.Need-returns-2 Inv-loop μ-loop
 returns-2 c =
     let l = c .before .before .before .loop in
     let s = c .before .before .before .before .before .args .s .now in
-    let k : length (drop (l .at) s) ≤ length s - l .at = simp length-drop (search needs) in
-    ap not (c .any-set2 .ensures ∙ ap (any isSet) (take-all (length s - l .at) (drop (l .at) s) k) ∙ sym (l .inv .1 .1)) ∙ any-not-all (λ b. eqb b 0) s
+    ap not (c .any-set2 .ensures ∙ ap (any isSet) (take-rest (l .at) s) ∙ sym (l .inv .1 .1)) ∙ any-not-all (λ b. eqb b 0) s
 
 pub all-zero-spec : {M : Type 1} → statement M
 all-zero-spec =
