@@ -7,7 +7,9 @@ use mathlib.Core.Option.{Option}
 use mathlib.Core.Logic.{_⊎_, inl, inr}
 use mathlib.Core.List.{List, [], _∷_, map}
 use native.Mathlib.Omega.{arith}
+use borrow.Author.Tests.{eq-eqb}
 use Rattle.seq.specs.Words.{firstOr, when, listed, from}
+use Rattle.seq.proofs.Laws.{First, here, later}
 use Rattle.numbers.specs.declared.Cause.{Cause}
 use Rattle.numbers.specs.declared.Cause.the-variants.{FcbChannel, FcbSpacing, FcbSum, FcbEdge, TableShort, SequencePairs, SequenceCounts, NumberRecord, SegmentEnds, SegmentFields}
 use Rattle.numbers.specs.declared.Checked.{Checked}
@@ -18,7 +20,8 @@ use Rattle.numbers.specs.Numbers.{SenseStep, keep, anew, causeOf, rowOf,
 
 -- Numbers 0 to 11 and causes 1 to 10, in the order in which they are declared.
 pub every-number : map numberOf
-    (Accepted ∷ NotListed ∷ BadRecord ∷ LoadCheck FcbSum ∷ PageWaiting ∷ PageStarted ∷ NoPage ∷ BadIndex ∷ TooShort ∷ BadStore ∷ BadForm ∷ TwoPages ∷ [])
+    (Accepted ∷ NotListed ∷ BadRecord ∷ LoadCheck FcbSum ∷ PageWaiting ∷ PageStarted ∷ NoPage ∷ BadIndex ∷ TooShort ∷ BadStore ∷ BadForm ∷ TwoPages
+    ∷ [])
     ≡ from 0 12
 unfolding rowOf
 every-number = refl
@@ -59,10 +62,27 @@ unfolding isAccepted rowOf
 not-accepted n e = true≢false (sym (ap isAccepted e) ∙ n)
 
 -- where none of an order held, a load's check found nothing
-pub passed-check : (d : Checked) (ts : List (Option Refusal)) → firstOr Accepted (checked d ∷ ts) ≡ Accepted → (d ≡ Sound) × (firstOr Accepted ts ≡ Accepted)
+pub passed-check : (d : Checked) (ts : List (Option Refusal)) → firstOr Accepted (checked d ∷ ts) ≡ Accepted → (d ≡ Sound) ×
+    (firstOr Accepted ts ≡ Accepted)
 unfolding firstOr checked isAccepted rowOf
 passed-check Sound ts e = (refl, e)
 passed-check (Faulty c) ts e = absurd (not-accepted {x = LoadCheck c} refl e)
+
+-- an order that gives another number than its first entry has goes on after it
+pub goes-on : (x : Refusal) {y : Refusal} (b : Bool) (ts : List (Option Refusal)) → eqb (numberOf x) (numberOf y) ≡ false
+    → firstOr Accepted (when b x ∷ ts) ≡ y → (b ≡ false) × (firstOr Accepted ts ≡ y)
+unfolding firstOr when
+goes-on x true ts n e = absurd (false≢true (sym n ∙ eq-eqb _ _ (ap numberOf e)))
+goes-on x false ts n e = (refl, e)
+
+-- a load's check as an entry of an order: it finds a fault, or nothing
+pub check-hit : {d : Checked} {c : Cause} {ts : List (Option Refusal)} → d ≡ Faulty c → First Accepted (checked d ∷ ts) (LoadCheck c)
+unfolding checked
+check-hit e = rw e here
+
+pub check-pass : {d : Checked} {x : Refusal} {ts : List (Option Refusal)} → d ≡ Sound → First Accepted ts x → First Accepted (checked d ∷ ts) x
+unfolding checked
+check-pass e f = rw e (later f)
 
 -- Refusals 1, 3 and 5 set the sense anew, and the others keep it; unit check, 0E, is shown exactly where there is something to tell.
 abbrev pub isAnew : SenseStep → Bool
@@ -89,6 +109,22 @@ told n TooShort = (refl, refl)
 told n BadStore = (refl, refl)
 told n BadForm = (refl, refl)
 told n TwoPages = (refl, refl)
+
+-- A row is the same for all records, but for a load check, whose sense can show the record's byte count.
+pub row-same : (n m : ℕ) (x : Refusal) → ((c : Cause) → x ≡ LoadCheck c → n ≡ m) → rowOf n x ≡ rowOf m x
+unfolding rowOf
+row-same n m Accepted h = refl
+row-same n m NotListed h = refl
+row-same n m BadRecord h = refl
+row-same n m (LoadCheck c) h = rw (h c refl)
+row-same n m PageWaiting h = refl
+row-same n m PageStarted h = refl
+row-same n m NoPage h = refl
+row-same n m BadIndex h = refl
+row-same n m TooShort h = refl
+row-same n m BadStore h = refl
+row-same n m BadForm h = refl
+row-same n m TwoPages h = refl
 
 kept : (t : SenseStep) → isAnew t ≡ false → t ≡ keep
 kept keep e = refl
