@@ -1,7 +1,7 @@
 -- After check 2 no line crosses the border of a half inch, so that where a line starts says in which half inch it lies.
 use Prim.Native.Nat.{ℕ, _+_, _%_, _≤_}
 use mathlib.Core.Path.{_≡_, refl, ap}
-use mathlib.Core.Bool.{Bool, true, false, cond, not, _&&_, true≢false}
+use mathlib.Core.Bool.{Bool, true, false, cond, _&&_, true≢false}
 use mathlib.Core.List.{List, [], _∷_}
 use native.Mathlib.Omega.{arith}
 use lib.Dec.{eqb, leb}
@@ -10,7 +10,7 @@ use Rattle.seq.specs.Words.{any}
 use Rattle.seq.proofs.Laws.{or-left, or-right, and-both}
 use Rattle.numbers.specs.declared.Checked.the-variants.{Sound}
 use Rattle.form.specs.Form.{upper, unitsOf, units, halfInch, runsFrom, runs, otherUpper, fcbCheck}
-use Rattle.form.proofs.FormLaws.{Passes, passes, first-upper, rest-upper}
+use Rattle.form.proofs.FormLaws.{odd, Passes, passes, units-has, four-units, first-upper, rest-upper}
 
 -- no line, the first `off` units down, crosses a multiple of half an inch
 unfoldable pub borders : ℕ → List ℕ → Bool
@@ -33,43 +33,27 @@ next u n (four e h) = four e (omega arith)
 next u n (three e h) = three e (omega arith)
 next u n (two e h) = two e (omega arith)
 
-pick-whole : (a b c : Bool) → eqb (cond a 4 (cond b 3 (cond c 2 0))) 0 ≡ false
-    → Whole (cond a 4 (cond b 3 (cond c 2 0))) (cond a 4 (cond b 3 (cond c 2 0)))
-pick-whole true b c e = four refl refl
-pick-whole false true c e = three refl refl
-pick-whole false false true e = two refl refl
-pick-whole false false false e = absurd (true≢false e)
-
 whole-one : (u : ℕ) → eqb (unitsOf u) 0 ≡ false → Whole (unitsOf u) (unitsOf u)
-unfolding unitsOf
-whole-one u e = pick-whole (eqb u 0) (eqb u 1) (eqb u 3) e
-
--- some run is no whole number of half inches
-abbrev odd : List ℕ → Bool
-odd l = any (λ n. not (eqb (n % halfInch) 0)) l
-
-one-fits : (u : ℕ) → Whole u u → u ≤ 12
-one-fits u (four e h) = omega arith
-one-fits u (three e h) = omega arith
-one-fits u (two e h) = omega arith
+whole-one u =
+    units-has (λ n. eqb n 0 ≡ false → Whole n n) u (λ e. four refl refl) (λ e. three refl refl) (λ e. two refl refl) (λ e. absurd (true≢false e))
 
 -- A line of the open run, which has the upper half u and n units so far, or the first of another run.
 border-step : (u n off b : ℕ) (bs : List ℕ) (t : Bool) → eqb (upper b) u ≡ t → Whole (unitsOf u) n → off % 12 ≡ n % 12 → eqb (units b) 0 ≡ false
-    → odd (cond t (runsFrom u (n + units b) bs) (n ∷ runsFrom (upper b) (units b) bs)) ≡ false
-    → (Whole (unitsOf u) (n + units b) → (off + units b) % 12 ≡ (n + units b) % 12 → odd (runsFrom u (n + units b) bs) ≡ false → borders (off + units b) bs ≡ true)
-    → (Whole (units b) (units b) → (off + units b) % 12 ≡ units b % 12 → odd (runsFrom (upper b) (units b) bs) ≡ false → borders (off + units b) bs ≡ true)
+    → any odd (cond t (runsFrom u (n + units b) bs) (n ∷ runsFrom (upper b) (units b) bs)) ≡ false
+    → (Whole (unitsOf u) (n + units b) → (off + units b) % 12 ≡ (n + units b) % 12 → any odd (runsFrom u (n + units b) bs) ≡ false → borders (off + units b) bs ≡ true)
+    → (Whole (units b) (units b) → (off + units b) % 12 ≡ units b % 12 → any odd (runsFrom (upper b) (units b) bs) ≡ false → borders (off + units b) bs ≡ true)
     → (leb (off % 12 + units b) 12 && borders (off + units b) bs) ≡ true
 border-step u n off b bs true et w s z e same change =
     let q : units b ≡ unitsOf u = ap unitsOf (eqb-true (upper b) u et) in
     let w′ : Whole (units b) n = rw q w in
     and-both (le-leb (off % 12 + units b) 12 (fits (units b) n off w′ s)) (same (rw (← q) (next (units b) n w′)) (omega arith) e)
 border-step u n off b bs false et w s z e same change =
-    let c : n % 12 ≡ 0 = eqb-true (n % 12) 0 (not-false (eqb (n % 12) 0) (or-left (not (eqb (n % 12) 0)) (odd (runsFrom (upper b) (units b) bs)) e)) in
+    let c : n % 12 ≡ 0 = eqb-true (n % 12) 0 (not-false (eqb (n % 12) 0) (or-left (odd n) (any odd (runsFrom (upper b) (units b) bs)) e)) in
     let w′ : Whole (units b) (units b) = whole-one (upper b) z in
-    and-both (le-leb (off % 12 + units b) 12 (omega (arith, one-fits (units b) w′)))
-    (change w′ (omega arith) (or-right (not (eqb (n % 12) 0)) (odd (runsFrom (upper b) (units b) bs)) e))
+    and-both (le-leb (off % 12 + units b) 12 (omega (arith, four-units (upper b))))
+    (change w′ (omega arith) (or-right (odd n) (any odd (runsFrom (upper b) (units b) bs)) e))
 
-run-borders : (u n off : ℕ) (bs : List ℕ) → Whole (unitsOf u) n → off % 12 ≡ n % 12 → otherUpper bs ≡ false → odd (runsFrom u n bs) ≡ false → borders off bs ≡ true
+run-borders : (u n off : ℕ) (bs : List ℕ) → Whole (unitsOf u) n → off % 12 ≡ n % 12 → otherUpper bs ≡ false → any odd (runsFrom u n bs) ≡ false → borders off bs ≡ true
 unfolding runsFrom borders
 run-borders u n off [] w s z e = refl
 run-borders u n off (b ∷ bs) w s z e =
@@ -77,12 +61,12 @@ run-borders u n off (b ∷ bs) w s z e =
     (λ w′ s′ e′. run-borders u (n + units b) (off + units b) bs w′ s′ (rest-upper b bs z) e′)
     (λ w′ s′ e′. run-borders (upper b) (units b) (off + units b) bs w′ s′ (rest-upper b bs z) e′)
 
-all-borders : (f : List ℕ) → otherUpper f ≡ false → odd (runs f) ≡ false → borders 0 f ≡ true
+all-borders : (f : List ℕ) → otherUpper f ≡ false → any odd (runs f) ≡ false → borders 0 f ≡ true
 unfolding runs borders
 all-borders [] z e = refl
 all-borders (b ∷ bs) z e =
     let w : Whole (units b) (units b) = whole-one (upper b) (first-upper b bs z) in
-    and-both (le-leb (0 % 12 + units b) 12 (omega (arith, one-fits (units b) w)))
+    and-both (le-leb (0 % 12 + units b) 12 (omega (arith, four-units (upper b))))
     (run-borders (upper b) (units b) (0 + units b) bs w (omega arith) (rest-upper b bs z) e)
 
 pub no-straddle : (len : ℕ) (f : List ℕ) → fcbCheck len f ≡ Sound → borders 0 f ≡ true

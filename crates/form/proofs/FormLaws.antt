@@ -1,19 +1,23 @@
 -- Of forms control that its load takes: at most 144 bytes, and from 1 to 132 printable lines. The starting FCB is such.
-use Prim.Native.Nat.{ℕ, suc, _+_, _*_, _-_, _/_, _≤_, _<_, max}
+use Prim.Native.Nat.{ℕ, suc, _+_, _*_, _-_, _/_, _%_, _≤_, _<_, max}
 use mathlib.Core.Path.{_≡_, refl, sym, ap, _∙_}
-use mathlib.Core.Bool.{Bool, true, false, cond, _&&_, true≢false, and-true}
+use mathlib.Core.Bool.{Bool, true, false, cond, not, _&&_, true≢false, and-true}
 use mathlib.Core.List.{List, [], _∷_, _++_, map}
 use native.Mathlib.Omega.{arith}
 use lib.ListN.{length, set, replicate, length-replicate, replicate-append-replicate}
 use lib.Dec.{eqb, leb, ltb, lit≤}
 use borrow.Author.Tests.{ltb-true, lt-ltb, leb-true, leb-false, eqb-true, not-false}
 use Rattle.seq.specs.Words.{all, when, firstOr, listed, total, zeros, padded}
-use Rattle.seq.proofs.Laws.{and-left, and-right, or-left, or-right, listed-all, passed, every-at}
+use Rattle.seq.proofs.Laws.{and-left, and-right, or-left, or-right, cond-has, listed-all, passed, every-at}
 use Rattle.numbers.specs.declared.Cause.the-variants.{FcbChannel, FcbSpacing, FcbSum, FcbEdge}
 use Rattle.numbers.specs.declared.Checked.the-variants.{Sound, Faulty}
 use Rattle.numbers.specs.Numbers.{isSound}
 use Rattle.numbers.proofs.Laws.{faulty, sound-is}
-use Rattle.form.specs.Form.{formLengths, formOk, upper, unitsOf, units, runs, runsFrom, unitsTotal, between, linesWhere, printable, edges, badChannel, otherUpper, oddRun, fcbCheck, layoutCheck, layoutOf, channelAt, startFcb, formsOf}
+use Rattle.form.specs.Form.{formLengths, formOk, upper, unitsOf, units, halfInch, runs, runsFrom, unitsTotal, between, linesWhere, printable, edges, badChannel, otherUpper, oddRun, fcbCheck, layoutCheck, layoutOf, channelAt, startFcb, formsOf}
+
+-- no whole number of half inches
+abbrev pub odd : ℕ → Bool
+odd n = not (eqb (n % halfInch) 0)
 
 -- What the four checks found.
 pub record Passes (len : ℕ) (f : List ℕ) : Type 0 where
@@ -35,26 +39,17 @@ passes len f e =
       sum = eqb-true _ _ (not-false _ (h₃ .0));
     }
 
--- A line is 2 to 4 units.
-pick-units : (a b c : Bool) → eqb (cond a 4 (cond b 3 (cond c 2 0))) 0 ≡ false → 2 ≤ cond a 4 (cond b 3 (cond c 2 0))
-pick-units true b c e = lit≤ tt
-pick-units false true c e = lit≤ tt
-pick-units false false true e = lit≤ tt
-pick-units false false false e = absurd (true≢false e)
-
-pub two-units : (u : ℕ) → eqb (unitsOf u) 0 ≡ false → 2 ≤ unitsOf u
+-- An upper half means 4, 3 or 2 units, or none of these; so a line is 2 to 4 units.
+pub units-has : (P : ℕ → Type 0) (u : ℕ) → P 4 → P 3 → P 2 → P 0 → P (unitsOf u)
 unfolding unitsOf
-two-units u e = pick-units (eqb u 0) (eqb u 1) (eqb u 3) e
+units-has P u four three two none =
+    cond-has P (eqb u 0) (λ e. four) (λ e. cond-has P (eqb u 1) (λ e. three) (λ e. cond-has P (eqb u 3) (λ e. two) (λ e. none)))
 
-pick-four : (a b c : Bool) → cond a 4 (cond b 3 (cond c 2 0)) ≤ 4
-pick-four true b c = lit≤ tt
-pick-four false true c = lit≤ tt
-pick-four false false true = lit≤ tt
-pick-four false false false = lit≤ tt
+two-units : (u : ℕ) → eqb (unitsOf u) 0 ≡ false → 2 ≤ unitsOf u
+two-units u = units-has (λ n. eqb n 0 ≡ false → 2 ≤ n) u (λ e. lit≤ tt) (λ e. lit≤ tt) (λ e. lit≤ tt) (λ e. absurd (true≢false e))
 
-four-units : (u : ℕ) → unitsOf u ≤ 4
-unfolding unitsOf
-four-units u = pick-four (eqb u 0) (eqb u 1) (eqb u 3)
+pub four-units : (u : ℕ) → unitsOf u ≤ 4
+four-units u = units-has (λ n. n ≤ 4) u (lit≤ tt) (lit≤ tt) (lit≤ tt) (lit≤ tt)
 
 -- the first byte's spacing is one of the three, and so are the others'
 pub first-upper : (b : ℕ) (bs : List ℕ) → otherUpper (b ∷ bs) ≡ false → eqb (units b) 0 ≡ false
@@ -72,7 +67,7 @@ pub short-form : (n : ℕ) → listed formLengths n ≡ true → n ≤ 288
 unfolding formLengths
 short-form n e = leb-true n 288 (listed-all (λ m. leb m 288) n formLengths refl e)
 
-pub long-form : (n : ℕ) → listed formLengths n ≡ true → 72 ≤ n
+long-form : (n : ℕ) → listed formLengths n ≡ true → 72 ≤ n
 unfolding formLengths
 long-form n e = leb-true 72 n (listed-all (λ m. leb 72 m) n formLengths refl e)
 

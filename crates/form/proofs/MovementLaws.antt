@@ -66,7 +66,7 @@ pub round-length : (p c : ℕ) → c ≤ p → length (round p c) ≡ p
 unfolding round
 round-length p c h = simp (length-append, length-map, length-from) (omega arith)
 
-first-some : (f : Spot → Bool) (w : List Spot) → 1 ≤ length w → 1 ≤ length (upToFirst f w)
+pub first-some : (f : Spot → Bool) (w : List Spot) → 1 ≤ length w → 1 ≤ length (upToFirst f w)
 unfolding upToFirst
 first-some f [] h = h
 first-some f (s ∷ ss) h = omega arith

@@ -1,4 +1,6 @@
 // Document 01, "Form and forms control" and "Movement".
+pub mod fcb;
+pub mod movement;
 
 // Forms control: the FCB's bytes, one for each line, and how many there are; 00 after them.
 pub struct Forms {
@@ -31,4 +33,16 @@ pub struct Moved {
     pub nine: bool,
     pub twelve: bool,
     pub missed: bool,
+}
+
+impl Moved {
+    // What Clear makes of a started page: it is completed, with the form at line 1 of the next.
+    pub const TOP: Moved = Moved {
+        lines: 0,
+        pages: 1,
+        line: 1,
+        nine: false,
+        twelve: false,
+        missed: false,
+    };
 }

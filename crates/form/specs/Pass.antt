@@ -1,0 +1,27 @@
+-- What the code carries from byte to byte of an FCB. That it comes to the layout is proved in proofs/LayoutLaws (`joined-start`, `-step`, `-end`).
+use Prim.Native.Nat.{ℕ, _+_, _%_}
+use mathlib.Core.Bool.{Bool, false, not, _&&_, _||_}
+use lib.Dec.{eqb, leb, ltb}
+use Rattle.seq.specs.Words.{bit}
+use Rattle.form.specs.declared.fcb.Pass.{Pass}
+use Rattle.form.specs.Form.{upper, channel, units, halfInch}
+
+-- Before the first byte; its upper half does not matter, since a run that ends at 0 units is not odd.
+unfoldable pub start : Pass
+start = record { upper = 0; channel = false; other = false; odd = false; units = 0; edge = false; top = 0; lines = 0 }
+
+-- After one more byte. A line is printable if it starts after the first half inch and before `last`. A run is odd where it ends within a
+-- half inch of the form: those before it are whole, or an odd one was seen already (`odd-from`, proofs/LayoutLaws).
+unfoldable pub stepOf : ℕ → Pass → ℕ → Pass
+stepOf last s b =
+    let inside : Bool = leb halfInch (s .units) && ltb (s .units) last in
+    record {
+      upper = upper b;
+      channel = s .channel || ltb 12 (channel b);
+      other = s .other || eqb (units b) 0;
+      odd = s .odd || (not (eqb (upper b) (s .upper)) && not (eqb (s .units % halfInch) 0));
+      units = s .units + units b;
+      edge = s .edge || (not inside && not (eqb (channel b) 0));
+      top = s .top + bit (ltb (s .units) halfInch) 1;
+      lines = s .lines + bit inside 1;
+    }

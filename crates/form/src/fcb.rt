@@ -1,0 +1,201 @@
+// Document 01, "Form and forms control": what an FCB says, whether its load takes it, and forms control as the printer keeps it.
+use crate::Forms;
+use crate::Layout;
+use numbers::Cause;
+use numbers::Checked;
+ghost use mathlib.Core.Path.{_≡_};
+ghost use mathlib.Core.Bool.{not, _&&_};
+ghost use mathlib.Core.List.{[], _∷_};
+ghost use Prim.Native.Nat.{_+_, _-_, _%_, _≤_};
+ghost use lib.Dec.{eqb};
+ghost use lib.ListN.{length};
+ghost use Rattle.seq.specs.Words.{listed};
+ghost use Rattle.form.specs.Form.{formLengths, pitchesListed, formOk, unitsOf, halfInch, layoutOf, layoutCheck, fcbCheck, fcbNow, formsOf, formsInRange};
+ghost use Rattle.form.specs.Pass.{stepOf};
+
+const HALF_INCH: u16 = 12;
+
+// What the bytes so far have shown: the upper half of the last one, a bad channel, another upper half, a run that ended within a half inch,
+// the units in all, a channel in an edge half inch, the lines that start in the first half inch, and the printable ones.
+struct Pass {
+    upper: u8,
+    channel: bool,
+    other: bool,
+    odd: bool,
+    units: u16,
+    edge: bool,
+    top: u16,
+    lines: u16,
+}
+
+fn units(upper: u8) -> u16
+    ensures { λ r. ⌜ (r ≡ unitsOf upper) × (r ≤ 4) ⌝ }
+{
+    if upper == 0 {
+        return 4;
+    }
+    if upper == 1 {
+        return 3;
+    }
+    if upper == 3 {
+        return 2;
+    }
+    0
+}
+
+// Whether a run ends within a half inch, asked only where one ends.
+fn ends_odd(change: bool, at: u16) -> bool
+    ensures { λ r. ⌜ r ≡ (change && not (eqb (at % halfInch) 0)) ⌝ }
+{
+    if change {
+        return at % HALF_INCH != 0;
+    }
+    false
+}
+
+// One more byte; the printable lines start before `last`.
+fn step(last: u16, s: Pass, b: u8) -> Pass
+    requires { ⌜ (s .units ≤ 32768) × ((s .top ≤ 8192) × (s .lines ≤ 8192)) ⌝ }
+    ensures { λ r. ⌜ (r ≡ stepOf last s b) × ((r .units ≤ s .units + 4) × ((r .top ≤ s .top + 1) × (r .lines ≤ s .lines + 1))) ⌝ }
+{
+    let at = s.units;
+    let upper = b / 16;
+    let channel = b % 16;
+    let n = units(upper);
+    let odd = ends_odd(upper != s.upper, at);
+    let between = (HALF_INCH <= at) & (at < last);
+    Pass {
+        upper: upper,
+        channel: s.channel | (12 < channel),
+        other: s.other | (n == 0),
+        odd: s.odd | odd,
+        units: at + n,
+        edge: s.edge | (!between & (channel != 0)),
+        top: s.top + (seq::flag(at < HALF_INCH, 1) as u16),
+        lines: s.lines + (seq::flag(between, 1) as u16),
+    }
+}
+
+fn less(a: u16, b: u16) -> u16
+    ensures { λ r. ⌜ r ≡ a - b ⌝ }
+{
+    if a < b {
+        return 0;
+    }
+    a - b
+}
+
+// One pass over an FCB.
+pub fn lay_out(form: u16, fcb: &[u8]) -> Layout
+    requires { ⌜ length (now fcb) ≤ 8192 ⌝ }
+    ensures { λ r. ⌜ r ≡ layoutOf form (now (fcb .entry)) ⌝ }
+{
+    let last = less(form, HALF_INCH);
+    let mut s = Pass {
+        upper: 0,
+        channel: false,
+        other: false,
+        odd: false,
+        units: 0,
+        edge: false,
+        top: 0,
+        lines: 0,
+    };
+    let mut i = 0;
+    while i < fcb.len() {
+        s = step(last, s, fcb[i]);
+        i += 1;
+    }
+    Layout {
+        channel: s.channel,
+        spacing: s.other | (s.odd | (s.units % HALF_INCH != 0)),
+        units: s.units,
+        edge: s.edge,
+        top: s.top,
+        lines: s.lines,
+    }
+}
+
+pub fn layout_check(form: u16, layout: Layout) -> Checked
+    ensures { λ r. ⌜ r ≡ layoutCheck form layout ⌝ }
+{
+    if layout.channel {
+        return Checked::Faulty(Cause::FcbChannel);
+    }
+    if layout.spacing {
+        return Checked::Faulty(Cause::FcbSpacing);
+    }
+    if layout.units != form {
+        return Checked::Faulty(Cause::FcbSum);
+    }
+    if layout.edge {
+        return Checked::Faulty(Cause::FcbEdge);
+    }
+    Checked::Sound
+}
+
+pub fn fcb_check(form: u16, fcb: &[u8]) -> Checked
+    requires { ⌜ length (now fcb) ≤ 8192 ⌝ }
+    ensures { λ r. ⌜ r ≡ fcbCheck form (now (fcb .entry)) ⌝ }
+{
+    let layout = lay_out(form, fcb);
+    layout_check(form, layout)
+}
+
+// The FCB that the printer keeps, for any count: more than there are is all there are.
+pub fn forms_layout(form: u16, forms: Forms) -> Layout
+    ensures { λ r. ⌜ r ≡ layoutOf form (fcbNow forms) ⌝ }
+{
+    let fcb = forms.fcb;
+    lay_out(form, seq::front(&fcb, forms.count as usize))
+}
+
+pub fn forms_in_range(forms: Forms) -> bool
+    ensures { λ r. ⌜ r ≡ formsInRange forms ⌝ }
+{
+    let fcb = forms.fcb;
+    (forms.count <= 144) & seq::zero_from(&fcb, forms.count as usize)
+}
+
+pub fn load_forms(sent: &[u8]) -> Forms
+    requires { ⌜ length (now sent) ≤ 144 ⌝ }
+    ensures { λ r. ⌜ r ≡ formsOf (now (sent .entry)) ⌝ }
+{
+    let mut fcb = [0u8; 144];
+    let n = sent.len();
+    seq::copy_all(&mut fcb[0..n], sent);
+    Forms {
+        fcb: fcb,
+        count: n as u8,
+    }
+}
+
+fn length_listed(form: u32) -> bool
+    ensures { λ r. ⌜ r ≡ listed formLengths form ⌝ }
+{
+    (form == 84)
+        | (form == 132)
+        | (form == 168)
+        | (form == 204)
+        | (form == 264)
+        | (form == 72)
+        | (form == 96)
+        | (form == 144)
+        | (form == 192)
+        | (form == 240)
+        | (form == 288)
+}
+
+fn pitch_listed(pitch: u32) -> bool
+    ensures { λ r. ⌜ r ≡ listed pitchesListed pitch ⌝ }
+{
+    (pitch == 0) | (pitch == 10) | (pitch == 12) | (pitch == 15)
+}
+
+// Form length and pitches as Start is passed them.
+pub fn form_ok(form: u32, p0: u32, p1: u32, p2: u32, p3: u32) -> bool
+    ensures { λ r. ⌜ r ≡ formOk form (p0 ∷ p1 ∷ p2 ∷ p3 ∷ []) ⌝ }
+{
+    let pitches = pitch_listed(p0) & (pitch_listed(p1) & (pitch_listed(p2) & pitch_listed(p3)));
+    length_listed(form) & (pitches & (p0 != 0))
+}
