@@ -1,4 +1,14 @@
 // Document 01, "Writing a line".
+mod merge;
+pub mod tables;
+pub mod translate;
+
+ghost use mathlib.Core.Path.{_≡_};
+ghost use mathlib.Core.Bool.{cond, _&&_};
+ghost use Prim.Native.Nat.{_≤_};
+ghost use lib.ListN.{length};
+ghost use Rattle.line.specs.Line.{serving, anyUnprintable, lineCells, mergeLine, anyCollides, lineAt, pageWritten};
+ghost use Rattle.line.specs.Line.{lineCauses, orUnmatched, causeByte};
 
 // The four table slots: which are loaded, and which is selected. Their bytes are a lent store.
 pub struct Slots {
@@ -12,4 +22,94 @@ pub struct Causes {
     pub unloaded: bool,
     pub unmatched: bool,
     pub collision: bool,
+}
+
+impl Causes {
+    pub const NONE: Causes = Causes {
+        unprintable: false,
+        unloaded: false,
+        unmatched: false,
+        collision: false,
+    };
+}
+
+// The cells of a whole line: the record's, and the stand-in after them. Says whether anything in the record was unprintable.
+fn make_line(cells: &mut [u8], sent: &[u8], pitches: [u8; 4], table: &[u8]) -> bool
+    requires { ⌜ length (now cells) ≡ 204 ⌝ }
+    requires { ⌜ length (now sent) ≤ 204 ⌝ }
+    requires { ⌜ length (now table) ≡ 256 ⌝ }
+    ensures cells { λ _. ⌜ now (cells .exit) ≡ lineCells pitches (now (table .entry)) (now (sent .entry)) ⌝ }
+    ensures found { λ r. ⌜ r ≡ anyUnprintable pitches (now (table .entry)) (now (sent .entry)) ⌝ }
+{
+    let n = sent.len();
+    seq::fill(cells, translate::stand_in(pitches, table));
+    translate::translate(&mut cells[0..n], sent, pitches, table)
+}
+
+// The first write on a line sets its cells, a later one merges with them. Says whether anything collides.
+fn lay(cells: &mut [u8], later: bool, new: &[u8]) -> bool
+    requires { ⌜ length (now cells) ≡ length (now new) ⌝ }
+    ensures cells { λ _. ⌜ now (cells .exit) ≡ cond later (mergeLine (now (cells .entry)) (now (new .entry))) (now (new .entry)) ⌝ }
+    ensures clash { λ r. ⌜ r ≡ (later && anyCollides (now (cells .entry)) (now (new .entry))) ⌝ }
+{
+    if later {
+        return merge::merge(cells, new);
+    }
+    seq::copy_all(cells, new);
+    false
+}
+
+// Writes the record on a line of the page, counted from 1; `later`, if that was written before.
+pub fn write_line(
+    page: &mut [u8],
+    line: u8,
+    later: bool,
+    sent: &[u8],
+    pitches: [u8; 4],
+    slots: Slots,
+    tables: &[u8],
+) -> Causes
+    requires { ⌜ 1 ≤ line ⌝ }
+    requires { ⌜ line ≤ 132 ⌝ }
+    requires { ⌜ length (now page) ≡ 26928 ⌝ }
+    requires { ⌜ length (now sent) ≤ 204 ⌝ }
+    requires { ⌜ slots .selected ≤ 3 ⌝ }
+    requires { ⌜ length (now tables) ≡ 1024 ⌝ }
+    ensures page { λ _. ⌜ now (page .exit)
+        ≡ pageWritten later line (lineCells pitches (serving slots (now (tables .entry))) (now (sent .entry))) (now (page .entry)) ⌝ }
+    ensures causes { λ r. ⌜ r ≡ lineCauses pitches slots (now (tables .entry)) later (lineAt line (now (page .entry))) (now (sent .entry)) ⌝ }
+{
+    let at = 204 * (seq::wide(line) - 1);
+    let end = at + 204;
+    let mut cells = [0u8; 204];
+    let unprintable = make_line(&mut cells, sent, pitches, tables::serving(slots, tables));
+    let collision = lay(&mut page[at..end], later, &cells);
+    Causes {
+        unprintable: unprintable,
+        unloaded: !tables::is_loaded(slots),
+        unmatched: false,
+        collision: collision,
+    }
+}
+
+pub fn or_unmatched(causes: Causes, missed: bool) -> Causes
+    ensures { λ r. ⌜ r ≡ orUnmatched causes missed ⌝ }
+{
+    Causes {
+        unprintable: causes.unprintable,
+        unloaded: causes.unloaded,
+        unmatched: missed,
+        collision: causes.collision,
+    }
+}
+
+// The causes as sense byte 1. Block hides two of the four.
+pub fn cause_byte(blocked: bool, causes: Causes) -> u8
+    ensures { λ r. ⌜ r ≡ causeByte blocked causes ⌝ }
+{
+    let unprintable = seq::flag(causes.unprintable & !blocked, 0x80);
+    let unloaded = seq::flag(causes.unloaded, 0x20);
+    let unmatched = seq::flag(causes.unmatched, 0x10);
+    let collision = seq::flag(causes.collision & !blocked, 0x08);
+    unprintable + unloaded + unmatched + collision
 }
