@@ -1,10 +1,11 @@
--- What the checks of a translate table, an overlay sequence and a copy number leave true of an accepted record.
-use Prim.Native.Nat.{ℕ, _-_, _/_, _%_, _≤_}
+-- Overlay sequences, copy numbers and translate tables: the pairs of a record step by step, and what the checks leave true of an accepted one.
+use Prim.Native.Nat.{ℕ, suc, _+_, _-_, _/_, _%_, _≤_, _<_}
 use mathlib.Core.Path.{_≡_, refl}
 use mathlib.Core.Bool.{true, not, _&&_}
 use mathlib.Core.List.{List, [], _∷_, map}
 use native.Mathlib.Omega.{arith}
-use lib.ListN.{length, getD, replicate}
+use lib.ListN.{length, getD, drop, replicate, length-drop}
+use lib.Seq.{drop-cons}
 use lib.Dec.{eqb, leb}
 use borrow.Author.Tests.{eqb-true, eqb-false, leb-true, ltb-false, not-true, not-false}
 use Rattle.seq.specs.Words.{any, when, firstOr, joined, zeros}
@@ -15,17 +16,38 @@ use Rattle.numbers.proofs.Laws.{faulty}
 use Rattle.copies.specs.declared.Copies.{Copies}
 use Rattle.copies.specs.Copies.{tableCheck, pairsOf, copiesOf, wholePairs, badPair, sequenceCheck, markIn, numberCheck, copyNumber}
 
+-- The pairs from place i on: the one there before those after it, and none where fewer than two bytes are left.
+module _ (r : List ℕ) (i : ℕ) where
+  pub pairs-more : 2 ≤ length r - i → pairsOf (drop i r) ≡ (getD r i 0, getD r (i + 1) 0) ∷ pairsOf (drop (i + 2) r)
+  unfolding pairsOf
+  pairs-more h =
+      let one : i + 1 ≡ suc i = omega arith in
+      let two : i + 2 ≡ suc (suc i) = omega arith in
+      rw (one, two, drop-cons r i 0 (omega arith), drop-cons r (suc i) 0 (omega arith)) refl
+
+  pub pairs-none : length r - i < 2 → pairsOf (drop i r) ≡ []
+  unfolding pairsOf
+  pairs-none h = short (drop i r) (rw length-drop h)
+    where
+      short : (l : List ℕ) → length l < 2 → pairsOf l ≡ []
+      short [] h = refl
+      short (n ∷ []) h = refl
+      short (n ∷ m ∷ l) h = absurd (omega arith)
+
 pub table-long : (r : List ℕ) → tableCheck r ≡ Sound → 256 ≤ length r
 unfolding tableCheck
 table-long r e = ltb-false (length r) 256 (passed _ _ faulty e .0)
 
-pub sequence-fits : (r : List ℕ) → sequenceCheck r ≡ Sound → length r ≤ 16
-unfolding sequenceCheck
-sequence-fits r e =
-    let w : wholePairs r ≡ true = not-false _ (passed _ _ faulty e .0) in
+-- 1 to 8 whole pairs fit the array.
+pub whole-fits : (r : List ℕ) → wholePairs r ≡ true → length r ≤ 16
+whole-fits r w =
     let even : length r % 2 ≡ 0 = eqb-true _ _ (and-left _ (leb 1 (length r / 2)) (and-left _ (leb (length r / 2) 8) w)) in
     let few : length r / 2 ≤ 8 = leb-true _ _ (and-right (eqb (length r % 2) 0 && leb 1 (length r / 2)) _ w) in
     omega arith
+
+pub sequence-fits : (r : List ℕ) → sequenceCheck r ≡ Sound → length r ≤ 16
+unfolding sequenceCheck
+sequence-fits r e = whole-fits r (not-false _ (passed _ _ faulty e .0))
 
 pub few-copies : (r : List ℕ) → sequenceCheck r ≡ Sound → copiesOf r ≤ 255
 unfolding sequenceCheck

@@ -1,28 +1,28 @@
 -- What a legend load stores is read back as its segments, with their text translated, and 00 after them.
-use Prim.Native.Nat.{ℕ, zero, suc, _+_, _-_, _≤_, _<_}
+use Prim.Native.Nat.{ℕ, zero, suc, _-_, _≤_, _<_}
 use mathlib.Core.Path.{_≡_, refl, sym, ap, _∙_}
 use mathlib.Core.Bool.{Bool, true, false, cond, _||_}
 use mathlib.Core.List.{List, [], _∷_, _++_, map, append-assoc, append-nil}
 use native.Mathlib.Omega.{arith}
 use lib.ListN.{length, getD, take, drop, length-append, length-take, length-drop, List·getD-append}
 use lib.Seq.{take-at, drop-at, getD-take, length-take-le}
-use lib.Dec.{eqb, ltb, lit<}
-use borrow.Author.Tests.{ltb-false, le-ltb}
-use Rattle.seq.specs.Words.{any, empty, joined, when, firstOr, every, zeros, padded}
-use Rattle.seq.proofs.Laws.{or-left, passed, padded-zero, length-padded}
+use lib.Dec.{eqb, lit<}
+use borrow.Author.Tests.{ne-eqb, le-ltb}
+use Rattle.seq.specs.Words.{empty, joined, when, firstOr, every, zeros, padded}
+use Rattle.seq.proofs.Laws.{passed, padded-zero, length-padded}
 use Rattle.numbers.specs.declared.Cause.the-variants.{SegmentEnds, SegmentFields}
 use Rattle.numbers.specs.declared.Checked.the-variants.{Sound, Faulty}
 use Rattle.numbers.specs.Numbers.{isSound}
 use Rattle.numbers.proofs.Laws.{faulty}
+use Rattle.copies.proofs.SegmentLaws.{judged, Whole, rest, tested, empty-or-sound, byte-set, cut-none, cut-more, cut-take, cut-end}
 use Rattle.copies.specs.Legends.{headSize, legendSize, segmentLength, badHead, segmentTests, cut, segments, legendCheck, retext, storedLegends, storedSegments, legendsOk, noLegends, Segment, covers, shown}
 
--- A segment without fault: six bytes that say what they may, and exactly its text.
-pub record Fit (s : List ℕ) : Type 0 where
-  pub six : 6 ≤ length s
-  pub head : badHead s ≡ false
-  pub size : length s ≡ segmentLength s
+-- A segment with its text and nothing after it, and several.
+record Fit (s : List ℕ) : Type 0 where
+  pub whole : Whole s
+  pub exact : length s ≤ segmentLength s
 
-pub data Fits : List (List ℕ) → Type 0 where
+data Fits : List (List ℕ) → Type 0 where
   end : Fits []
   more : {s : List ℕ} {ss : List (List ℕ)} → Fit s → Fits ss → Fits (s ∷ ss)
 
@@ -35,35 +35,24 @@ unfolding cut joined
 cut-fits zero r e = end
 cut-fits (suc n) [] e = end
 cut-fits (suc n) (b ∷ bs) e =
-    let s = take (segmentLength (b ∷ bs)) (b ∷ bs) in
-    let h₁ = passed (ltb (length s) headSize) _ faulty e in
-    let h₂ = passed (badHead s) _ faulty (h₁ .1) in
-    let h₃ = passed (ltb (length s) (segmentLength s)) _ faulty (h₂ .1) in
-    let long : segmentLength s ≤ length s = ltb-false (length s) (segmentLength s) (h₃ .0) in
-    more (record { six = ltb-false (length s) 6 (h₁ .0); head = h₂ .0; size = omega (arith, cut-most (b ∷ bs)) })
-    (cut-fits n (drop (segmentLength (b ∷ bs)) (b ∷ bs)) (h₃ .1))
+    let t = tested (take (segmentLength (b ∷ bs)) (b ∷ bs)) _ e in
+    more (record { whole = t .0; exact = cut-most (b ∷ bs) }) (cut-fits n (rest (b ∷ bs)) (t .1))
 
-pub segments-fit : (r : List ℕ) → legendCheck r ≡ Sound → Fits (segments r)
+segments-fit : (r : List ℕ) → legendCheck r ≡ Sound → Fits (segments r)
 unfolding legendCheck segments
 segments-fit r e = cut-fits (length r) r (passed _ _ faulty e .1)
 
 -- Segments one after the other are cut into themselves, whether a cut ends at 00 or not, since none begins with 00.
 abbrev Ends : (ℕ → Bool) → Type 0
-Ends ends = (b : ℕ) → eqb b 0 ≡ false → ends b ≡ false
-
-first-byte : (b : ℕ) (bs : List ℕ) → badHead (b ∷ bs) ≡ false → eqb b 0 ≡ false
-unfolding badHead
-first-byte b bs e = or-left (eqb b 0) _ (or-left (any (λ x. eqb x 0) (b ∷ take 5 bs)) _ e)
-
-front-size : (s q : List ℕ) → Fit s → segmentLength (s ++ q) ≡ length s
-front-size s q f = rw (List·getD-append s q 0 5 (omega (arith, f .six))) (sym (f .size))
+Ends ends = (b : ℕ) → 1 ≤ b → ends b ≡ false
 
 cut-cons : (ends : ℕ → Bool) (n : ℕ) (s q : List ℕ) → Ends ends → Fit s → cut ends (suc n) (s ++ q) ≡ s ∷ cut ends n q
-unfolding cut
-cut-cons ends n [] q h f = absurd (omega (arith, f .six))
-cut-cons ends n (b ∷ bs) q h f =
-    rw
-    (h b (first-byte b bs (f .head)), front-size (b ∷ bs) q f, take-at (b ∷ bs) q (length (b ∷ bs)) refl, drop-at (b ∷ bs) q (length (b ∷ bs)) refl)
+cut-cons ends n s q h f =
+    let size : segmentLength (s ++ q) ≡ length s =
+    rw (List·getD-append s q 0 5 (omega (arith, f .whole .size))) (omega (arith, f .whole .size, f .exact)) in
+    let first = List·getD-append s q 0 0 (omega (arith, f .whole .size)) in
+    cut-more ends n (s ++ q) (rw length-append (omega (arith, f .whole .size))) (rw first (h (getD s 0 0) (byte-set s (f .whole) 0 (lit< tt))))
+    ∙ rw (size, take-at s q (length s) refl, drop-at s q (length s) refl)
 
 module _ (ends : ℕ → Bool) (h : Ends ends) (q : List ℕ) (z : (n : ℕ) → cut ends n q ≡ []) where
   cut-joined : (n : ℕ) {ss : List (List ℕ)} → Fits ss → length ss ≤ n → cut ends n (joined ss ++ q) ≡ ss
@@ -75,55 +64,45 @@ module _ (ends : ℕ → Bool) (h : Ends ends) (q : List ℕ) (z : (n : ℕ) →
       ∙ cut-cons ends n s (joined ss ++ q) h f
       ∙ ap (λ (r : List (List ℕ)). s ∷ r) (cut-joined n g (omega arith))
 
-cut-none : (ends : ℕ → Bool) (n : ℕ) → cut ends n [] ≡ []
-unfolding cut
-cut-none ends zero = refl
-cut-none ends (suc n) = refl
-
-cut-zeros : (n z : ℕ) → cut (λ b. eqb b 0) n (zeros z) ≡ []
-unfolding cut
-cut-zeros zero z = refl
-cut-zeros (suc n) zero = refl
-cut-zeros (suc n) (suc z) = refl
-
 few-fits : {ss : List (List ℕ)} → Fits ss → length ss ≤ length (joined ss)
 unfolding joined
 few-fits end = omega arith
-few-fits (more {s} {ss} f g) = rw (length-append s (joined ss)) (omega (arith, few-fits g, f .six))
+few-fits (more {s} {ss} f g) = rw (length-append s (joined ss)) (omega (arith, few-fits g, f .whole .size))
 
-pub segments-joined : {ss : List (List ℕ)} → Fits ss → segments (joined ss) ≡ ss
+segments-joined : {ss : List (List ℕ)} → Fits ss → segments (joined ss) ≡ ss
 unfolding segments
 segments-joined {ss} g =
     ap (cut (λ b. false) (length (joined ss))) (sym (append-nil (joined ss)))
     ∙ cut-joined (λ b. false) (λ b e. refl) [] (cut-none (λ b. false)) (length (joined ss)) g (few-fits g)
 
--- Such segments, one or more, pass the load's check.
+-- Such segments, if any, pass the load's check.
 fit-tests : (s : List ℕ) (ts : List (List ℕ)) → Fit s → firstOr Sound (joined (map segmentTests (s ∷ ts))) ≡ firstOr Sound (joined (map segmentTests ts))
 unfolding joined firstOr when
-fit-tests s ts f = rw (le-ltb (length s) headSize (f .six), f .head, le-ltb (length s) (segmentLength s) (omega (arith, f .size)))
+fit-tests s ts f =
+    let w = f .whole in
+    rw (le-ltb (length s) headSize (omega (arith, w .size)), w .head, le-ltb (length s) (segmentLength s) (w .size))
 
 fits-tests : {ss : List (List ℕ)} → Fits ss → firstOr Sound (joined (map segmentTests ss)) ≡ Sound
 unfolding joined firstOr
 fits-tests end = refl
 fits-tests (more {s} {ss} f g) = fit-tests s ss f ∙ fits-tests g
 
-check-joined : {ss : List (List ℕ)} → Fits ss → empty (joined ss) ≡ false → legendCheck (joined ss) ≡ Sound
-unfolding legendCheck firstOr when
-check-joined g e = rw (e, segments-joined g) (fits-tests g)
-
 some-or-sound : {ss : List (List ℕ)} → Fits ss → (empty (joined ss) || isSound (legendCheck (joined ss))) ≡ true
 unfolding isSound
-some-or-sound {ss} g = go (empty (joined ss)) refl
-  where
-    go : (t : Bool) → empty (joined ss) ≡ t → (empty (joined ss) || isSound (legendCheck (joined ss))) ≡ true
-    go true e = rw e
-    go false e = rw (e, check-joined g e)
+some-or-sound {ss} g =
+    let e : judged (joined ss) ≡ Sound = rw (segments-joined g) (fits-tests g) in
+    empty-or-sound (joined ss) ∙ ap isSound e
+
+zero-first : (n : ℕ) → getD (zeros n) 0 0 ≡ 0
+zero-first zero = refl
+zero-first (suc n) = refl
 
 -- Legends that hold such segments and 00 after them are legends that a printer can have.
 stored-fits : {ss : List (List ℕ)} → Fits ss → length (joined ss) ≤ 8192 → storedSegments (padded legendSize (joined ss)) ≡ ss
 unfolding storedSegments padded
 stored-fits {ss} g l =
-    cut-joined (λ b. eqb b 0) (λ b e. e) (zeros (8192 - length (joined ss))) (λ n. cut-zeros n (8192 - length (joined ss)))
+    cut-joined (λ b. eqb b 0) (λ b h. ne-eqb b 0 (λ e. omega (arith, h, e))) (zeros (8192 - length (joined ss)))
+    (λ n. cut-end n (zeros (8192 - length (joined ss))) (zero-first (8192 - length (joined ss))))
     (length (joined ss ++ zeros (8192 - length (joined ss)))) g
     (simp length-append (omega (arith, few-fits g)))
 
@@ -137,7 +116,7 @@ none-ok = padded-ok end (omega arith)
 
 -- The text of each segment put through f, which keeps its length.
 module _ (f : List ℕ → List ℕ) (same : (x : List ℕ) → length (f x) ≡ length x) where
-  retext-length : (s : List ℕ) → 6 ≤ length s → length (retext f s) ≡ length s
+  pub retext-length : (s : List ℕ) → 6 ≤ length s → length (retext f s) ≡ length s
   retext-length s h = simp (length-append, same, length-take, length-drop) (omega arith)
 
   retext-six : (s : List ℕ) → 6 ≤ length s → take 6 (retext f s) ≡ take 6 s
@@ -149,10 +128,15 @@ module _ (f : List ℕ → List ℕ) (same : (x : List ℕ) → length (f x) ≡
   retext-fit : (s : List ℕ) → Fit s → Fit (retext f s)
   unfolding badHead
   retext-fit s t =
+      let six : 6 ≤ length s = omega (arith, t .whole .size) in
+      let fifth = retext-at s 5 six (lit< tt) in
       record {
-        six = rw (retext-length s (t .six)) (t .six);
-        head = rw (retext-six s (t .six), retext-at s 4 (t .six) (lit< tt), retext-at s 5 (t .six) (lit< tt)) (t .head);
-        size = rw (retext-at s 5 (t .six) (lit< tt), retext-length s (t .six)) (t .size);
+        whole =
+            record {
+              head = rw (retext-six s six, retext-at s 4 six (lit< tt), fifth) (t .whole .head);
+              size = rw (fifth, retext-length s six) (t .whole .size);
+            };
+        exact = rw (fifth, retext-length s six) (t .exact);
       }
 
   retext-fits : {ss : List (List ℕ)} → Fits ss → Fits (map (retext f) ss)
@@ -163,20 +147,15 @@ module _ (f : List ℕ → List ℕ) (same : (x : List ℕ) → length (f x) ≡
   unfolding joined
   joined-same end = refl
   joined-same (more {s} {ss} t g) =
-      length-append (retext f s) (joined (map (retext f) ss)) ∙ rw (retext-length s (t .six), joined-same g) (sym (length-append s (joined ss)))
-
-  cut-total : (n : ℕ) (r : List ℕ) → length (joined (cut (λ b. false) n r)) ≤ length r
-  unfolding cut joined
-  cut-total zero r = omega arith
-  cut-total (suc n) [] = omega arith
-  cut-total (suc n) (b ∷ bs) =
-      let m = segmentLength (b ∷ bs) in
-      rw length-append (omega (arith, cut-total n (drop m (b ∷ bs)), length-take m (b ∷ bs), length-drop m (b ∷ bs)))
+      length-append (retext f s) (joined (map (retext f) ss))
+      ∙ rw (retext-length s (omega (arith, t .whole .size)), joined-same g) (sym (length-append s (joined ss)))
 
   module _ (r : List ℕ) (e : legendCheck r ≡ Sound) (h : length r ≤ 8192) where
     stored-short : length (joined (map (retext f) (segments r))) ≤ 8192
     unfolding segments
-    stored-short = omega (arith, joined-same (segments-fit r e), cut-total (length r) r)
+    stored-short =
+        let k = cut-take (λ b. false) (length r) r in
+        omega (arith, h, joined-same (segments-fit r e), ap length (k .1), length-take (k .0) r)
 
     pub stored-size : length (storedLegends f r) ≡ 8192
     unfolding storedLegends

@@ -1,2 +1,5 @@
 pub mod CopiesLaws
+pub mod SegmentLaws
 pub mod LegendLaws
+pub mod StoredLaws
+pub mod ComposeLaws
