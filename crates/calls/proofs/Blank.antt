@@ -81,7 +81,7 @@ blank-load k CopyModification r u h = h
 blank-load k OverlaySequence r u h = h
 blank-load k CopyNumber r u h = h
 
-blank-command : (k : Core) (c : Command) (r : List ℕ) → Taken k c r → Blank k → Blank (doCommand k c r .core)
+blank-command : (k : Core) (c : Command) (r : List ℕ) {reply : List ℕ} → Taken k c r reply → Blank k → Blank (doCommand k c r .core)
 unfolding doCommand doControl doLoad done traitsOf controlTraits refused
 blank-command k (Write m) r t h = blank-write k m r (good k (t .ok))
 blank-command k (Move m) r t h = blank-move k m (good k (t .ok)) h

@@ -263,7 +263,7 @@ decode-small b =
     (λ t. cond-has (λ (x : Command). small x ≡ true) (skips b 3) (λ t. refl) (λ t. look-small b codes codes-small))
 
 -- Every accepted command.
-good-command : (k : Core) (c : Command) (r : List ℕ) → small c ≡ true → Taken k c r → Good k → Good (doCommand k c r .core)
+good-command : (k : Core) (c : Command) (r : List ℕ) {reply : List ℕ} → small c ≡ true → Taken k c r reply → Good k → Good (doCommand k c r .core)
 unfolding doCommand doControl doLoad done small checkOf traitsOf controlTraits refused
 good-command k (Write m) r d t g = good-write k m r (was-free refl (t .free)) (ltb-false 204 (length r) (or-right (empty r) (ltb 204 (length r)) (t .sized))) g
 good-command k (Move m) r d t g = good-move k m (was-free refl (t .free)) g

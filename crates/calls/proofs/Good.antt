@@ -58,7 +58,7 @@ pub record Good (k : Core) : Type 0 where
   pub legends : legendsOk (k .stores .legends) ≡ true
 
 -- They are just the contents that get no 9.
-sizes-good : (m : Stores) → sizesOk m ≡ true → Sizes m
+pub sizes-good : (m : Stores) → sizesOk m ≡ true → Sizes m
 unfolding sizesOk
 sizes-good m e = record { page = eqb-true _ _ (every-at 0 _ e); legends = eqb-true _ _ (every-at 1 _ e); tables = eqb-true _ _ (every-at 2 _ e) }
 

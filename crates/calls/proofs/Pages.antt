@@ -49,7 +49,7 @@ compose-gives w n out e = rw (accepted-effect (w .core) (compose n out) e)
 pub page-stays : (k : Core) (c : Call) → k .state .sheet .waiting ≡ true → counts k c ≡ true → c ≡ release
 unfolding counts
 page-stays k (command b r reply) w e =
-    let t : Taken k (decode b) r = taken k b r reply (every-at 0 _ e) in
+    let t : Taken k (decode b) r reply = taken k b r reply (every-at 0 _ e) in
     absurd (true≢false (sym w ∙ was-free {q = traitsOf (decode b) .quiet} (not-true _ (every-at 1 _ e)) (t .free)))
 page-stays k (compose n out) w e = absurd (false≢true e)
 page-stays k release w e = refl

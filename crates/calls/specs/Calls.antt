@@ -7,6 +7,7 @@ use lib.ListN.{length, drop}
 use lib.Dec.{eqb, ltb}
 use Rattle.seq.specs.Words.{when, firstOr, empty}
 use Rattle.numbers.specs.declared.Answer.{Answer}
+use Rattle.numbers.specs.declared.Sense.{Sense}
 use Rattle.numbers.specs.declared.Checked.{Checked}
 use Rattle.numbers.specs.declared.Checked.the-variants.{Sound}
 use Rattle.numbers.specs.declared.Refusal.{Refusal}
@@ -153,7 +154,10 @@ pub record Outcome : Type 0 where
   pub buffer : List ℕ
   pub world : World
 
+-- Calls: what an effect comes to, under the sense and over the buffer that a call finds.
+abbrev pub outcomeOf : Sense → List ℕ → Effect → Outcome
+outcomeOf s buffer e =
+    record { answer = e .answer; buffer = over (e .front s) buffer; world = record { core = e .core; sense = senseAfter s (e .sense) } }
+
 unfoldable pub step : World → Call → Outcome
-step w c =
-    let e = effect (w .core) c in
-    record { answer = e .answer; buffer = over (e .front (w .sense)) (lent c); world = record { core = e .core; sense = senseAfter (w .sense) (e .sense) } }
+step w c = outcomeOf (w .sense) (lent c) (effect (w .core) c)
