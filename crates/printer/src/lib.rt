@@ -1,4 +1,15 @@
-// The printer by value: what it holds, what it starts with, and the sizes that it is lent.
+// The printer by value, and the sizes that it is lent. Its four public calls stand with what they do: `start` in starting, `command` in
+// commands, `compose` and `release` in pages. Each answers for every state, slice and number: it asks nothing of its caller, and its contract is
+// one equation that fixes the answer, the printer and every lent byte.
+mod actions;
+mod commands;
+mod contents;
+mod controls;
+mod loads;
+mod pages;
+mod refusals;
+mod starting;
+
 use calls::Fixed;
 use calls::Sheet;
 use calls::State;
@@ -7,11 +18,6 @@ use form::Forms;
 use line::Slots;
 use numbers::Answer;
 use numbers::Sense;
-ghost use mathlib.Core.Path.{_≡_};
-ghost use mathlib.Core.Bool.{true};
-ghost use Rattle.seq.specs.Words.{listed};
-ghost use Rattle.form.specs.Form.{formLengths, startFcb, formsOf};
-ghost use Rattle.calls.specs.Reset.{resetState};
 
 pub struct Printer {
     pub state: State,
@@ -72,45 +78,4 @@ impl Printer {
             b23: 0,
         },
     };
-
-    // The starting FCB of a listed form: 6 lines per inch, with channel 1 at line 1.
-    fn start_forms(length: u16) -> Forms
-        requires { ⌜ listed formLengths length ≡ true ⌝ }
-        ensures { λ r. ⌜ r ≡ formsOf (startFcb length) ⌝ }
-    {
-        let mut fcb = [0u8; 144];
-        fcb[3] = 1;
-        Forms {
-            fcb: fcb,
-            count: (length / 4) as u8,
-        }
-    }
-
-    // The starting state on a listed form, which a reset puts back; the check switch stays.
-    fn start_state(fixed: Fixed, blocked: bool) -> State
-        requires { ⌜ listed formLengths (fixed .length) ≡ true ⌝ }
-        ensures { λ r. ⌜ r ≡ resetState fixed blocked ⌝ }
-    {
-        let length = fixed.length;
-        State {
-            fixed: fixed,
-            blocked: blocked,
-            forms: Printer::start_forms(length),
-            slots: Slots {
-                loaded: [true, false, false, false],
-                selected: 0,
-            },
-            copies: Copies {
-                pairs: [1, 0, 0, 0, 0, 0, 0, 0, 0, 0, 0, 0, 0, 0, 0, 0],
-                count: 2,
-                reference: 1,
-            },
-            sheet: Sheet {
-                line: 1,
-                written: false,
-                waiting: false,
-                due: false,
-            },
-        }
-    }
 }

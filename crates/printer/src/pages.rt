@@ -1,0 +1,123 @@
+// What accepted calls of Compose and Release do with the page that waits.
+use crate::Printer;
+use crate::Step;
+use crate::actions;
+use crate::contents;
+use crate::refusals;
+use form::Layout;
+use numbers::Answer;
+use numbers::Refusal;
+ghost use mathlib.Core.Path.{_≡_};
+ghost use mathlib.Core.Bool.{true};
+ghost use mathlib.Core.List.{List, []};
+ghost use Prim.Native.Nat.{ℕ, _*_, _≤_};
+ghost use lib.ListN.{length};
+ghost use Rattle.form.specs.Form.{formOk};
+ghost use Rattle.line.specs.Line.{lineBytes};
+ghost use Rattle.copies.specs.Legends.{legendsOk};
+ghost use Rattle.calls.specs.Calls.{compose, release, doCompose, doRelease, outcomeOf, step};
+ghost use Rattle.printer.specs.Whole.{storesOf, coreOf, worldOf, outcome, Ready, Did};
+
+impl Printer {
+    // The copy's number and mark, and its cells over the front of the output.
+    pub(crate) fn print_copy(
+        self,
+        form: Layout,
+        copy: u16,
+        out: &mut [u8],
+        page: &[u8],
+        legends: &[u8],
+    ) -> Step
+        requires { ⌜ Ready (self .state) form ⌝ }
+        requires { ⌜ 1 ≤ copy ⌝ }
+        requires { ⌜ copy ≤ 255 ⌝ }
+        requires { ⌜ legendsOk (now legends) ≡ true ⌝ }
+        requires { ⌜ length (now page) ≡ 26928 ⌝ }
+        requires { ⌜ lineBytes * form .lines ≤ length (now out) ⌝ }
+        ensures { λ r. ⌜ ((t : List ℕ) → let m = storesOf (now (page .entry)) (now (legends .entry)) t in
+            outcome r (now (out .exit)) m ≡ outcomeOf (self .sense) (now (out .entry)) (doCompose (coreOf self m) copy)) ⌝ }
+    {
+        let state = self.state;
+        let number = copies::sequence::copy_number(state.copies, copy);
+        let mark = copies::sequence::copy_mark(state.copies, copy);
+        copies::compose::compose(out, page, legends, number, form.lines as u8);
+        Step {
+            printer: self,
+            answer: Answer {
+                refusal: Refusal::Accepted,
+                status: 0,
+                ready: false,
+                lines: 0,
+                copy: number,
+                mark: mark,
+            },
+        }
+    }
+
+    // The page is empty again, and a reset that was due is done.
+    pub(crate) fn empty_page(
+        mut self,
+        page: &mut [u8],
+        legends: &mut [u8],
+        tables: &mut [u8],
+    ) -> Step
+        requires { ⌜ formOk (self .state .fixed .length) (self .state .fixed .pitches) ≡ true ⌝ }
+        requires { ⌜ length (now page) ≡ 26928 ⌝ }
+        requires { ⌜ length (now legends) ≡ 8192 ⌝ }
+        requires { ⌜ length (now tables) ≡ 1024 ⌝ }
+        ensures { λ r. ⌜ Did self (storesOf (now (page .entry)) (now (legends .entry)) (now (tables .entry))) r
+            (storesOf (now (page .exit)) (now (legends .exit)) (now (tables .exit))) doRelease ⌝ }
+    {
+        let before = self.state;
+        let sheet = before.sheet;
+        seq::fill(page, 0);
+        let state = actions::with_sheet(before, actions::blank(sheet.line));
+        self.state = state;
+        if sheet.due {
+            let fresh = self.reset(legends, tables);
+            return Step {
+                printer: fresh,
+                answer: Answer::DONE,
+            };
+        }
+        Step {
+            printer: self,
+            answer: Answer::DONE,
+        }
+    }
+
+    // The copy with this index, from 1, of the page that waits.
+    pub fn compose(
+        self,
+        copy: u32,
+        out: &mut [u8],
+        page: &[u8],
+        legends: &[u8],
+        tables: &[u8],
+    ) -> Step
+        ensures { λ r. ⌜ (let m = storesOf (now (page .entry)) (now (legends .entry)) (now (tables .entry)) in
+            outcome r (now (out .exit)) m ≡ step (worldOf self m) (compose copy (now (out .entry)))) ⌝ }
+    {
+        let state = self.state;
+        let form = contents::layout(state);
+        let refusal = refusals::compose_refusal(state, form, copy, out, page, legends, tables);
+        if refusal.is_accepted() {
+            return self.print_copy(form, copy as u16, out, page, legends);
+        }
+        self.refuse(refusal, 0)
+    }
+
+    // The page that waits is done with.
+    pub fn release(self, page: &mut [u8], legends: &mut [u8], tables: &mut [u8]) -> Step
+        ensures { λ r. ⌜ outcome r [] (storesOf (now (page .exit)) (now (legends .exit)) (now (tables .exit)))
+            ≡ step (worldOf self (storesOf (now (page .entry)) (now (legends .entry)) (now (tables .entry)))) release ⌝ }
+    {
+        let state = self.state;
+        let form = contents::layout(state);
+        let refusal = refusals::release_refusal(state, form, page, legends, tables);
+        if refusal.is_accepted() {
+            return self.empty_page(page, legends, tables);
+        }
+        self.refuse(refusal, 0)
+    }
+}
