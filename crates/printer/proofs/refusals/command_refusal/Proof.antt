@@ -29,37 +29,40 @@ tests c = commandTests (core c) (c .args .command) (c .args .sent .now) (c .args
 no1 : (c : tie.Else1) → not (coreOk (core (c .before .before .before .before .before .before .before))) ≡ false
 no1 c = ap not (sym (c .before .contents-ok .ensures)) ∙ c .if1 .left
 
-past1 : (c : tie.Else2) {y : Refusal} → First Accepted (drop 2 (tests (c .before .before .before .before .before .before .before .before .before)))
-    y → First Accepted (tests (c .before .before .before .before .before .before .before .before .before)) y
+abbrev start1 : tie.Else2 → tie.Start
+start1 c = c .before .before .before .before .before .before .before .before .before
+
+past1 : (c : tie.Else2) {y : Refusal} → First Accepted (drop 2 (tests (start1 c))) y → First Accepted (tests (start1 c)) y
 past1 c f = pass BadStore (no1 (c .before .before)) (pass NotListed (sym (c .before .is-unlisted .ensures) ∙ c .if2 .left) f)
 
 -- 4, 2 and 5, each test as the code has computed it
 abbrev start : tie.After-is-started → tie.Start
-start c = c .before .before .before .before .before .before .before .before .before .before .before .before .before .before
+start c = start1 (c .before .before .before .before .before)
 
-test4 : (c : tie.After-is-started) {b : Bool} → let a = start c .args in
-    (a .state .sheet .waiting && not (c .before .before .before .before .is-quiet .result)) ≡ b → (a .state .sheet .waiting && not (traitsOf
-    (a .command) .quiet)) ≡ b
+test4 : (c : tie.After-is-started) {b : Bool}
+    → (start c .args .state .sheet .waiting && not (c .before .before .before .before .is-quiet .result)) ≡ b
+    → (start c .args .state .sheet .waiting && not (traitsOf (start c .args .command) .quiet)) ≡ b
 test4 c e = rw (← c .before .before .before .before .is-quiet .ensures) e
 
-test2 : (c : tie.After-is-started) {b : Bool} → c .before .before .bad-record .result ≡ b → badRecord (start c .args .command)
-    (start c .args .sent .now) ≡ b
+test2 : (c : tie.After-is-started) {b : Bool} → c .before .before .bad-record .result ≡ b → badRecord (start c .args .command) (start c .args .sent .now) ≡ b
 test2 c e = sym (c .before .before .bad-record .ensures) ∙ e
 
-test5 : (c : tie.After-is-started) {b : Bool} → let a = start c .args in
-    (c .before .is-load .result && c .is-started .result) ≡ b → (isLoad (a .command) && started (a .state .sheet)) ≡ b
+test5 : (c : tie.After-is-started) {b : Bool} → (c .before .is-load .result && c .is-started .result) ≡ b
+    → (isLoad (start c .args .command) && started (start c .args .state .sheet)) ≡ b
 test5 c e = rw (← c .before .is-load .ensures, ← c .is-started .ensures) e
 
-past2 : (c : tie.Else4) {y : Refusal} → First Accepted (drop 4 (tests
-    (c .before .before .before .before .before .before .before .before .before .before .before .before .before .before .before .before))) y →
-    First Accepted (tests (c .before .before .before .before .before .before .before .before .before .before .before .before .before .before .before .before)) y
-past2 c f =
-    past1 (c .before .before .before .before .before .before .before) (pass PageWaiting (test4 (c .before .before) (c .before .if3 .left))
-    (pass BadRecord (test2 (c .before .before) (c .if4 .left)) f))
+abbrev computed : tie.Else4 → tie.After-is-started
+computed c = c .before .before
 
-past5 : (c : tie.Else5) {y : Refusal} → First Accepted (drop 5 (tests
-    (c .before .before .before .before .before .before .before .before .before .before .before .before .before .before .before .before .before))) y → First Accepted (tests (c .before .before .before .before .before .before .before .before .before .before .before .before .before .before .before .before .before)) y
-past5 c f = past2 (c .before) (pass PageStarted (test5 (c .before .before .before) (c .if5 .left)) f)
+past2 : (c : tie.Else4) {y : Refusal} → First Accepted (drop 4 (tests (start (computed c)))) y → First Accepted (tests (start (computed c))) y
+past2 c f =
+    past1 (computed c .before .before .before .before .before)
+    (pass PageWaiting (test4 (computed c) (c .before .if3 .left))
+    (pass BadRecord (test2 (computed c) (c .if4 .left)) f))
+
+past5 : (c : tie.Else5) {y : Refusal} → First Accepted (drop 5 (tests (start (computed (c .before))))) y
+    → First Accepted (tests (start (computed (c .before)))) y
+past5 c f = past2 (c .before) (pass PageStarted (test5 (computed (c .before)) (c .if5 .left)) f)
 
 pub command-refusal-spec : {M : Type 1} → statement M
 command-refusal-spec =
