@@ -70,12 +70,6 @@ impl Printer {
                 due: false,
             },
         },
-        sense: Sense {
-            b0: 0,
-            b1: 0,
-            b2: 0,
-            b22: 0,
-            b23: 0,
-        },
+        sense: Sense::CLEAR,
     };
 }
