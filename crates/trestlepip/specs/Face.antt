@@ -1,0 +1,44 @@
+-- Document 01, "Calls": the four calls as a C host makes them, over the state's bytes.
+use Prim.Native.Nat.{ℕ}
+use mathlib.Core.Bool.{cond}
+use mathlib.Core.List.{List, []}
+use lib.Dec.{eqb}
+use lib.ListN.{length}
+use Rattle.numbers.specs.declared.Refusal.the-variants.{BadStore}
+use Rattle.numbers.specs.Numbers.{only}
+use Rattle.calls.specs.Core.{Stores, World}
+use Rattle.calls.specs.Calls.{Call, Outcome, lent, step}
+use Rattle.calls.specs.Start.{startOutcome}
+use Rattle.printer.specs.declared.Printer.{Printer}
+use Rattle.printer.specs.Whole.{worldOf}
+use Rattle.trestlepip.specs.State.{stateSize, bytesOf, printerOf, readable}
+use Rattle.trestlepip.specs.Packed.{packed}
+
+-- All that a call hands back and leaves: its packed answer, its buffer, the state's bytes and the stores.
+pub record Called : Type 0 where
+  pub answer : ℕ
+  pub buffer : List ℕ
+  pub state : List ℕ
+  pub stores : Stores
+
+abbrev pub called : ℕ → List ℕ → List ℕ → Stores → Called
+called answer buffer state m = record { answer = answer; buffer = buffer; state = state; stores = m }
+
+-- An outcome as the host finds it.
+abbrev pub printerIn : World → Printer
+printerIn w = record { state = w .core .state; sense = w .sense }
+
+abbrev pub shown : Outcome → Called
+shown o = called (packed (o .answer)) (o .buffer) (bytesOf (printerIn (o .world))) (o .world .core .stores)
+
+-- Numbers, 9: bytes that stand for no printer get it, and nothing is written.
+abbrev pub unread : List ℕ → List ℕ → Stores → Called
+unread buffer s m = called (packed (only BadStore 0)) buffer s m
+
+-- Command, Compose and Release.
+unfoldable pub callBytes : List ℕ → Stores → Call → Called
+callBytes s m c = cond (readable s) (shown (step (worldOf (printerOf s) m) c)) (unread (lent c) s m)
+
+-- Start reads no state; it needs only the room for one.
+unfoldable pub startBytes : ℕ → List ℕ → List ℕ → Stores → Called
+startBytes form pitches s m = cond (eqb (length s) stateSize) (shown (startOutcome form pitches m)) (unread [] s m)

@@ -1,0 +1,79 @@
+-- docs/STATE.md: a printer's state as bytes, its fields in that page's order, and the printer that bytes stand for.
+use Prim.Native.Nat.{ℕ, _+_, _*_, _/_, _%_}
+use mathlib.Core.Bool.{Bool, false}
+use mathlib.Core.List.{List, [], _∷_, _++_}
+use lib.Dec.{eqb, leb}
+use lib.ListN.{length, take, drop, getD}
+use Rattle.seq.specs.Words.{all, bit, every}
+use Rattle.form.specs.Form.{fcbSize}
+use Rattle.copies.specs.Copies.{pairSize}
+use Rattle.printer.specs.declared.Printer.{Printer}
+
+abbrev pub stateSize : ℕ
+stateSize = 184
+
+-- Bytes 0 to 23: what is no array but of four.
+abbrev pub smallBytes : Printer → List ℕ
+smallBytes p =
+    let s = p .state in
+    s .fixed .length / 256
+    ∷ s .fixed .length % 256
+    ∷ getD (s .fixed .pitches) 0 0
+    ∷ getD (s .fixed .pitches) 1 0
+    ∷ getD (s .fixed .pitches) 2 0
+    ∷ getD (s .fixed .pitches) 3 0
+    ∷ bit (s .blocked) 1
+    ∷ s .forms .count
+    ∷ bit (getD (s .slots .loaded) 0 false) 1
+    ∷ bit (getD (s .slots .loaded) 1 false) 1
+    ∷ bit (getD (s .slots .loaded) 2 false) 1
+    ∷ bit (getD (s .slots .loaded) 3 false) 1
+    ∷ s .slots .selected
+    ∷ s .copies .count
+    ∷ s .copies .reference
+    ∷ s .sheet .line
+    ∷ bit (s .sheet .written) 1
+    ∷ bit (s .sheet .waiting) 1
+    ∷ bit (s .sheet .due) 1
+    ∷ p .sense .b0
+    ∷ p .sense .b1
+    ∷ p .sense .b2
+    ∷ p .sense .b22
+    ∷ p .sense .b23
+    ∷ []
+
+-- All 184: then the overlay sequence's pairs, from 24 on, and the FCB's bytes, from 40 on.
+unfoldable pub bytesOf : Printer → List ℕ
+bytesOf p = smallBytes p ++ (p .state .copies .pairs ++ p .state .forms .fcb)
+
+-- The other way: the printer that bytes stand for, its two arrays given apart.
+abbrev pub byteAt : List ℕ → ℕ → ℕ
+byteAt s n = getD s n 0
+
+abbrev pub flagAt : List ℕ → ℕ → Bool
+flagAt s n = eqb (byteAt s n) 1
+
+abbrev pub printerWith : List ℕ → List ℕ → List ℕ → Printer
+printerWith s pairs fcb =
+    record {
+      state =
+          record {
+            fixed = record { length = byteAt s 0 * 256 + byteAt s 1; pitches = byteAt s 2 ∷ byteAt s 3 ∷ byteAt s 4 ∷ byteAt s 5 ∷ [] };
+            blocked = flagAt s 6;
+            forms = record { fcb = fcb; count = byteAt s 7 };
+            slots = record { loaded = flagAt s 8 ∷ flagAt s 9 ∷ flagAt s 10 ∷ flagAt s 11 ∷ []; selected = byteAt s 12 };
+            copies = record { pairs = pairs; count = byteAt s 13; reference = byteAt s 14 };
+            sheet = record { line = byteAt s 15; written = flagAt s 16; waiting = flagAt s 17; due = flagAt s 18 };
+          };
+      sense = record { b0 = byteAt s 19; b1 = byteAt s 20; b2 = byteAt s 21; b22 = byteAt s 22; b23 = byteAt s 23 };
+    }
+
+unfoldable pub printerOf : List ℕ → Printer
+printerOf s = printerWith s (take pairSize (drop 24 s)) (take fcbSize (drop 40 s))
+
+-- Bytes that stand for a printer: as many as a state has, and each flag 0 or 1. Every other range is the printer's own to judge.
+abbrev pub flagPlaces : List ℕ
+flagPlaces = 6 ∷ 8 ∷ 9 ∷ 10 ∷ 11 ∷ 16 ∷ 17 ∷ 18 ∷ []
+
+unfoldable pub readable : List ℕ → Bool
+readable s = every (eqb (length s) stateSize ∷ all (λ n. leb (byteAt s n) 1) flagPlaces ∷ [])

@@ -1,0 +1,98 @@
+// The printer for a C host: four calls on numbers and lent bytes. None asks anything of its caller, and the contract of each is one equation that
+// fixes the packed answer and every lent byte.
+mod answer;
+mod state;
+
+use printer::Printer;
+ghost use mathlib.Core.Path.{_≡_};
+ghost use mathlib.Core.List.{[], _∷_};
+ghost use Rattle.calls.specs.Calls.{command, compose, release};
+ghost use Rattle.printer.specs.Whole.{storesOf};
+ghost use Rattle.trestlepip.specs.Face.{called, callBytes, startBytes};
+
+#[no_mangle]
+pub extern "C" fn trestlepip_start(
+    form: u32,
+    pitch0: u32,
+    pitch1: u32,
+    pitch2: u32,
+    pitch3: u32,
+    state: &mut [u8],
+    page: &mut [u8],
+    legends: &mut [u8],
+    tables: &mut [u8],
+) -> u64
+    ensures { λ r. ⌜ called r [] (now (state .exit)) (storesOf (now (page .exit)) (now (legends .exit)) (now (tables .exit)))
+        ≡ startBytes form (pitch0 ∷ pitch1 ∷ pitch2 ∷ pitch3 ∷ []) (now (state .entry))
+        (storesOf (now (page .entry)) (now (legends .entry)) (now (tables .entry))) ⌝ }
+{
+    if state.len() != state::STATE_BYTES {
+        return answer::unread();
+    }
+    let step = Printer::start(form, pitch0, pitch1, pitch2, pitch3, page, legends, tables);
+    state::encode(step.printer, state);
+    answer::pack(step.answer)
+}
+
+#[no_mangle]
+pub extern "C" fn trestlepip_command(
+    byte: u8,
+    sent: &[u8],
+    reply: &mut [u8],
+    state: &mut [u8],
+    page: &mut [u8],
+    legends: &mut [u8],
+    tables: &mut [u8],
+) -> u64
+    ensures { λ r. ⌜ called r (now (reply .exit)) (now (state .exit)) (storesOf (now (page .exit)) (now (legends .exit)) (now (tables .exit)))
+        ≡ callBytes (now (state .entry)) (storesOf (now (page .entry)) (now (legends .entry)) (now (tables .entry)))
+        (command byte (now (sent .entry)) (now (reply .entry))) ⌝ }
+{
+    if !state::is_readable(state) {
+        return answer::unread();
+    }
+    let printer = state::decode(state);
+    let step = printer.command(byte, sent, reply, page, legends, tables);
+    state::encode(step.printer, state);
+    answer::pack(step.answer)
+}
+
+// The stores are only read.
+#[no_mangle]
+pub extern "C" fn trestlepip_compose(
+    copy: u32,
+    out: &mut [u8],
+    state: &[u8],
+    page: &[u8],
+    legends: &[u8],
+    tables: &[u8],
+) -> u64
+    ensures { λ r. ⌜ (let m = storesOf (now (page .entry)) (now (legends .entry)) (now (tables .entry)) in
+        called r (now (out .exit)) (now (state .entry)) m ≡ callBytes (now (state .entry)) m (compose copy (now (out .entry)))) ⌝ }
+{
+    if !state::is_readable(state) {
+        return answer::unread();
+    }
+    let printer = state::decode(state);
+    let step = printer.compose(copy, out, page, legends, tables);
+    answer::pack(step.answer)
+}
+
+#[no_mangle]
+pub extern "C" fn trestlepip_release(
+    state: &mut [u8],
+    page: &mut [u8],
+    legends: &mut [u8],
+    tables: &mut [u8],
+) -> u64
+    ensures { λ r. ⌜ called r [] (now (state .exit)) (storesOf (now (page .exit)) (now (legends .exit)) (now (tables .exit)))
+        ≡ callBytes (now (state .entry)) (storesOf (now (page .entry)) (now (legends .entry)) (now (tables .entry))) release ⌝ }
+{
+    if !state::is_readable(state) {
+        return answer::unread();
+    }
+    let printer = state::decode(state);
+    let step = printer.release(page, legends, tables);
+    state::encode(step.printer, state);
+    answer::pack(step.answer)
+}
