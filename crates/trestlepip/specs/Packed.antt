@@ -8,7 +8,7 @@ use Rattle.numbers.specs.declared.Refusal.the-variants.{Accepted, NotListed, Ba
 use Rattle.numbers.specs.Numbers.{causeOf, numberOf}
 
 -- The number of the cause that a load check carries; 0 of every other.
-unfoldable pub causeNumber : Refusal → ℕ
+abbrev pub causeNumber : Refusal → ℕ
 causeNumber Accepted = 0
 causeNumber NotListed = 0
 causeNumber BadRecord = 0

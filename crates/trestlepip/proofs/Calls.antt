@@ -1,0 +1,69 @@
+-- What an export's contract comes to: bytes that stand for a printer get its step, bytes that stand for none get 9 and are left.
+use Prim.Native.Nat.{ℕ}
+use mathlib.Core.Path.{_≡_, refl, sym, ap, _∙_}
+use mathlib.Core.Bool.{Bool, true, false}
+use mathlib.Core.List.{List, [], _∷_}
+use lib.Dec.{eqb}
+use lib.ListN.{length}
+use Rattle.seq.specs.Words.{when, firstOr}
+use Rattle.numbers.specs.declared.Sense.{Sense}
+use Rattle.numbers.specs.declared.Refusal.the-variants.{Accepted, NoPage, BadIndex, TooShort, BadStore}
+use Rattle.numbers.specs.Numbers.{rowOf, only, senseAfter}
+use Rattle.calls.specs.Core.{Stores, World}
+use Rattle.calls.specs.Effects.{Effect, refused}
+use Rattle.calls.specs.Calls.{Call, compose, doCompose, perform, lent, refusalOf, Outcome, step}
+use Rattle.calls.specs.Start.{startOutcome}
+use Rattle.calls.proofs.Refused.{by-outcome}
+use Rattle.printer.specs.declared.Printer.{Printer}
+use Rattle.printer.specs.declared.Step.{Step}
+use Rattle.printer.specs.Whole.{worldOf, outcome}
+use Rattle.trestlepip.specs.State.{stateSize, bytesOf, printerOf, readable}
+use Rattle.trestlepip.specs.Packed.{packed}
+use Rattle.trestlepip.specs.Face.{printerIn, shown, called, callBytes, startBytes}
+
+-- What a call did, as the host finds it: its answer packed, its printer's bytes.
+shown-so : {r : Step} {answer : ℕ} {buffer bytes : List ℕ} {m : Stores} {o : Outcome}
+    → outcome r buffer m ≡ o → answer ≡ packed (r .answer) → bytes ≡ bytesOf (r .printer) → called answer buffer bytes m ≡ shown o
+shown-so e a b = rw (a, b) (ap shown e)
+
+module _ (s : List ℕ) (m : Stores) (c : Call) where
+  pub read-so : {p : Printer} {r : Step} {answer : ℕ} {buffer bytes : List ℕ} {m′ : Stores} → readable s ≡ true → p ≡ printerOf s
+      → outcome r buffer m′ ≡ step (worldOf p m) c → answer ≡ packed (r .answer) → bytes ≡ bytesOf (r .printer)
+      → called answer buffer bytes m′ ≡ callBytes s m c
+  unfolding callBytes
+  read-so e d o a b = rw e (shown-so (o ∙ ap (λ (p : Printer). step (worldOf p m) c) d) a b)
+
+  pub unread-so : {answer : ℕ} → readable s ≡ false → answer ≡ packed (only BadStore 0) → called answer (lent c) s m ≡ callBytes s m c
+  unfolding callBytes
+  unread-so e a = rw (e, a)
+
+-- Start's.
+module _ (form : ℕ) (pitches s : List ℕ) (m : Stores) where
+  pub begun-so : {r : Step} {answer : ℕ} {bytes : List ℕ} {m′ : Stores} → length s ≡ stateSize → outcome r [] m′ ≡ startOutcome form pitches m
+      → answer ≡ packed (r .answer) → bytes ≡ bytesOf (r .printer) → called answer [] bytes m′ ≡ startBytes form pitches s m
+  unfolding startBytes
+  begun-so e o a b = rw (ap (λ (n : ℕ). eqb n stateSize) e) (shown-so o a b)
+
+  pub no-room-so : {answer : ℕ} → eqb (length s) stateSize ≡ false → answer ≡ packed (only BadStore 0) → called answer [] s m ≡ startBytes form pitches s m
+  unfolding startBytes
+  no-room-so e a = rw (e, a)
+
+-- Compose leaves the printer as it was: none of its refusals touches the sense.
+compose-sense : (n : ℕ) (s : Sense) (a b c d : Bool)
+    → senseAfter s (rowOf n (firstOr Accepted (when a BadStore ∷ when b NoPage ∷ when c BadIndex ∷ when d TooShort ∷ [])) .sense) ≡ s
+unfolding firstOr when rowOf
+compose-sense n s true b c d = refl
+compose-sense n s false true c d = refl
+compose-sense n s false false true d = refl
+compose-sense n s false false false true = refl
+compose-sense n s false false false false = refl
+
+compose-keeps : (w : World) (n : ℕ) (out : List ℕ) → step w (compose n out) .world ≡ w
+unfolding step refused perform doCompose refusalOf
+compose-keeps w n out =
+    by-outcome (λ (e : Effect). record { core = e .core; sense = senseAfter (w .sense) (e .sense) } ≡ w) (w .core) (compose n out) (λ a. refl)
+    (λ a. ap (λ (s : Sense). record { core = w .core; sense = s }) (compose-sense 0 (w .sense) _ _ _ _))
+
+pub compose-printer : {p : Printer} {r : Step} {buffer : List ℕ} {m : Stores} (n : ℕ) (out : List ℕ)
+    → outcome r buffer m ≡ step (worldOf p m) (compose n out) → r .printer ≡ p
+compose-printer {p = p} {m = m} n out e = ap (λ (o : Outcome). printerIn (o .world)) e ∙ ap printerIn (compose-keeps (worldOf p m) n out)

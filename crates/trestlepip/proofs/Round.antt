@@ -1,0 +1,139 @@
+-- A printer's bytes stand for that printer, and bytes that stand for a printer are that printer's bytes.
+use Prim.Native.Nat.{ℕ, zero, suc, _+_, _*_, _/_, _%_, _≤_, _<_}
+use mathlib.Core.Path.{_≡_, refl, ap, _∙_}
+use mathlib.Core.Bool.{Bool, true, false}
+use mathlib.Core.List.{List, [], _∷_, _++_, map}
+use native.Mathlib.Nat.{div-add-mod'}
+use native.Mathlib.Omega.{arith}
+use lib.ListN.{length, take, drop, getD, length-append, take-append-drop, length-drop}
+use lib.Seq.{take-at, drop-at, take-all, drop-cons, drop-drop, length-take-le}
+use lib.Dec.{eqb, leb}
+use borrow.Author.Tests.{eqb-true, eq-eqb, leb-true}
+use Rattle.seq.specs.Words.{all, bit, listed, from, zeros}
+use Rattle.seq.proofs.Laws.{every-at, every-of, finally, also, listed-all, four}
+use Rattle.calls.specs.Core.{Stores}
+use Rattle.calls.specs.Start.{noState, noPrinter}
+use Rattle.printer.specs.declared.Printer.{Printer}
+use Rattle.trestlepip.specs.State.{stateSize, bytesOf, printerOf, readable, flagPlaces, byteAt, flagAt}
+use Rattle.trestlepip.specs.Face.{printerIn}
+
+-- the arrays are as long as their types say
+pub record Sized (p : Printer) : Type 0 where
+  pub pitches : length (p .state .fixed .pitches) ≡ 4
+  pub loaded : length (p .state .slots .loaded) ≡ 4
+  pub pairs : length (p .state .copies .pairs) ≡ 16
+  pub fcb : length (p .state .forms .fcb) ≡ 144
+
+-- a flag as a byte, and back
+bit-small : (b : Bool) → leb (bit b 1) 1 ≡ true
+bit-small true = refl
+bit-small false = refl
+
+bit-flag : (b : Bool) → eqb (bit b 1) 1 ≡ b
+bit-flag true = refl
+bit-flag false = refl
+
+flag-bit : (n : ℕ) → leb n 1 ≡ true → bit (eqb n 1) 1 ≡ n
+flag-bit zero e = refl
+flag-bit (suc zero) e = refl
+flag-bit (suc (suc n)) e = absurd (omega (arith, leb-true (suc (suc n)) 1 e))
+
+-- elements one by one: any part of a list, and four flags
+spelled : {A : Type 0} (d : A) (a n : ℕ) (l : List A) → a + n ≤ length l → map (λ k. getD l k d) (from a n) ≡ take n (drop a l)
+spelled d a zero l h = refl
+spelled {A} d a (suc n) l h =
+    rw (drop-cons l a d (omega arith)) (ap (λ (r : List A). getD l a d ∷ r) (spelled d (suc a) n l (omega arith)))
+
+four-flags : (l : List Bool) → length l ≡ 4 → getD l 0 false ∷ getD l 1 false ∷ getD l 2 false ∷ getD l 3 false ∷ [] ≡ l
+four-flags l e = spelled false 0 4 l (omega arith) ∙ take-all 4 l (omega arith)
+
+-- a printer's bytes are as many as a state has, each flag is 0 or 1
+long : (p : Printer) → Sized p → length (bytesOf p) ≡ stateSize
+unfolding bytesOf
+long p z = simp length-append (omega (arith, z .pairs, z .fcb))
+
+flagged : (p : Printer) → all (λ n. leb (byteAt (bytesOf p) n) 1) flagPlaces ≡ true
+unfolding bytesOf
+flagged p = simp bit-small
+
+readable-bytes : (p : Printer) → Sized p → readable (bytesOf p) ≡ true
+unfolding readable
+readable-bytes p z = every-of (also (eq-eqb _ _ (long p z)) (also (flagged p) finally))
+
+parts : (p : Printer) → Sized p → printerOf (bytesOf p) ≡ p
+unfolding bytesOf printerOf
+parts p z =
+    simp (
+      div-add-mod' (p .state .fixed .length) 256,
+      four (p .state .fixed .pitches) (z .pitches),
+      bit-flag,
+      four-flags (p .state .slots .loaded) (z .loaded),
+      take-at (p .state .copies .pairs) (p .state .forms .fcb) 16 (z .pairs),
+      drop-at (p .state .copies .pairs) (p .state .forms .fcb) 16 (z .pairs),
+      take-all 144 (p .state .forms .fcb) (omega (arith, z .fcb)),
+    )
+
+-- A printer comes back from its bytes.
+pub round : (p : Printer) → Sized p → (readable (bytesOf p) ≡ true) × (printerOf (bytesOf p) ≡ p)
+round p z = (readable-bytes p z, parts p z)
+
+-- Bytes that stand for a printer: as many as a state has, and each flag 0 or 1.
+pub readable-size : (s : List ℕ) → readable s ≡ true → length s ≡ stateSize
+unfolding readable
+readable-size s e = eqb-true _ _ (every-at 0 _ e)
+
+flag-at : (s : List ℕ) → readable s ≡ true → (n : ℕ) → listed flagPlaces n ≡ true → bit (flagAt s n) 1 ≡ byteAt s n
+unfolding readable
+flag-at s e n h = flag-bit (byteAt s n) (listed-all (λ k. leb (byteAt s k) 1) n flagPlaces (every-at 1 _ e) h)
+
+-- the printer that they stand for has arrays of the right lengths
+pub sized : (s : List ℕ) → readable s ≡ true → Sized (printerOf s)
+unfolding printerOf
+sized s e =
+    let size : length s ≡ 184 = readable-size s e in
+    record {
+      pitches = refl;
+      loaded = refl;
+      pairs = length-take-le 16 (drop 24 s) (simp length-drop (omega arith));
+      fcb = length-take-le 144 (drop 40 s) (simp length-drop (omega arith));
+    }
+
+-- 184 bytes, cut as a state is
+cut : (s : List ℕ) → length s ≡ stateSize → map (byteAt s) (from 0 24) ++ (take 16 (drop 24 s) ++ take 144 (drop 40 s)) ≡ s
+cut s e =
+    ap (λ (l : List ℕ). l ++ (take 16 (drop 24 s) ++ take 144 (drop 40 s))) (spelled 0 0 24 s (omega arith))
+    ∙ rw (
+      take-all 144 (drop 40 s) (simp length-drop (omega arith)),
+      ← (drop-drop 16 24 s),
+      take-append-drop 16 (drop 24 s),
+      take-append-drop 24 s,
+    )
+
+high : (a b : ℕ) → b < 256 → (a * 256 + b) / 256 ≡ a
+high a b h = omega arith
+
+low : (a b : ℕ) → b < 256 → (a * 256 + b) % 256 ≡ b
+low a b h = omega arith
+
+-- Bytes that stand for a printer come back from it. Of their being bytes, all that counts is that of the form length's lower one.
+pub back : (s : List ℕ) → byteAt s 1 < 256 → readable s ≡ true → bytesOf (printerOf s) ≡ s
+unfolding bytesOf printerOf
+back s h e =
+    rw (
+      high (byteAt s 0) (byteAt s 1) h,
+      low (byteAt s 0) (byteAt s 1) h,
+      flag-at s e 6 refl,
+      flag-at s e 8 refl,
+      flag-at s e 9 refl,
+      flag-at s e 10 refl,
+      flag-at s e 11 refl,
+      flag-at s e 16 refl,
+      flag-at s e 17 refl,
+      flag-at s e 18 refl,
+    )
+    (cut s (readable-size s e))
+
+-- A refused Start hands back bytes that are all zero.
+pub zeros-no : (m : Stores) → bytesOf (printerIn (noPrinter m)) ≡ zeros stateSize
+unfolding bytesOf noPrinter noState
+zeros-no m = refl
