@@ -105,15 +105,16 @@ empty-length [] = refl
 empty-length (x ∷ l) = ne-eqb (suc (length l)) 0 (λ e. omega (arith, e))
 
 -- elements one by one: any part of a list, a list of four, the first six of one
-spelled : (a n : ℕ) (l : List ℕ) → a + n ≤ length l → map (λ k. getD l k 0) (from a n) ≡ take n (drop a l)
-spelled a zero l h = refl
-spelled a (suc n) l h = rw (drop-cons l a 0 (omega arith)) (ap (λ (r : List ℕ). getD l a 0 ∷ r) (spelled (suc a) n l (omega arith)))
+pub spelled : {A : Type 0} (d : A) (a n : ℕ) (l : List A) → a + n ≤ length l → map (λ k. getD l k d) (from a n) ≡ take n (drop a l)
+spelled d a zero l h = refl
+spelled {A} d a (suc n) l h =
+    rw (drop-cons l a d (omega arith)) (ap (λ (r : List A). getD l a d ∷ r) (spelled d (suc a) n l (omega arith)))
 
 pub four : (l : List ℕ) → length l ≡ 4 → getD l 0 0 ∷ getD l 1 0 ∷ getD l 2 0 ∷ getD l 3 0 ∷ [] ≡ l
-four l e = spelled 0 4 l (omega (arith, e)) ∙ take-all 4 l (omega (arith, e))
+four l e = spelled 0 0 4 l (omega (arith, e)) ∙ take-all 4 l (omega (arith, e))
 
 pub take-six : (l : List ℕ) → 6 ≤ length l → take 6 l ≡ getD l 0 0 ∷ getD l 1 0 ∷ getD l 2 0 ∷ getD l 3 0 ∷ getD l 4 0 ∷ getD l 5 0 ∷ []
-take-six l h = sym (spelled 0 6 l h)
+take-six l h = sym (spelled 0 0 6 l h)
 
 -- parts of a list: more than there are is all there are, and what goes to the end is all that is left
 pub take-least : (n : ℕ) (l : List ℕ) → take (min n (length l)) l ≡ take n l

@@ -10,7 +10,7 @@ use lib.Seq.{take-at, drop-at, take-all, drop-cons, drop-drop, length-take-le}
 use lib.Dec.{eqb, leb}
 use borrow.Author.Tests.{eqb-true, eq-eqb, leb-true}
 use Rattle.seq.specs.Words.{all, bit, listed, from, zeros}
-use Rattle.seq.proofs.Laws.{every-at, every-of, finally, also, listed-all, four}
+use Rattle.seq.proofs.Laws.{every-at, every-of, finally, also, listed-all, spelled, four}
 use Rattle.calls.specs.Core.{Stores}
 use Rattle.calls.specs.Start.{noState, noPrinter}
 use Rattle.printer.specs.declared.Printer.{Printer}
@@ -37,12 +37,6 @@ flag-bit : (n : ℕ) → leb n 1 ≡ true → bit (eqb n 1) 1 ≡ n
 flag-bit zero e = refl
 flag-bit (suc zero) e = refl
 flag-bit (suc (suc n)) e = absurd (omega (arith, leb-true (suc (suc n)) 1 e))
-
--- elements one by one: any part of a list, and four flags
-spelled : {A : Type 0} (d : A) (a n : ℕ) (l : List A) → a + n ≤ length l → map (λ k. getD l k d) (from a n) ≡ take n (drop a l)
-spelled d a zero l h = refl
-spelled {A} d a (suc n) l h =
-    rw (drop-cons l a d (omega arith)) (ap (λ (r : List A). getD l a d ∷ r) (spelled d (suc a) n l (omega arith)))
 
 four-flags : (l : List Bool) → length l ≡ 4 → getD l 0 false ∷ getD l 1 false ∷ getD l 2 false ∷ getD l 3 false ∷ [] ≡ l
 four-flags l e = spelled false 0 4 l (omega arith) ∙ take-all 4 l (omega arith)

@@ -1,0 +1,97 @@
+# shellcheck shell=sh
+# Sourced from the root by ./morning and ./test: which compilers and emulator serve, what to install, how the library and the host's programs are built.
+
+# The archive is for x86-64; on another machine the programs are built by a cross compiler, linked whole, and run by an emulator.
+# shellcheck disable=SC2034 # CXX and RUN are for the scripts that source this
+case $(uname -m) in
+x86_64 | amd64) CC=gcc CXX=g++ LINK='' RUN='' ;;
+*) CC=x86_64-linux-gnu-gcc CXX=x86_64-linux-gnu-g++ LINK=-static RUN=qemu-x86_64 ;;
+esac
+WARNINGS='-Wall -Wextra -Wpedantic -Wconversion -Wshadow -Wstrict-prototypes -Wmissing-prototypes -Werror'
+LIBRARY=target/staticlib/libtrestlepip.a
+
+stop() { # WORDS...
+    echo "${0##*/}: $*" >&2
+    exit 1
+}
+
+# The Debian packages that a command needs; a compiler is no use without its C library.
+package_of() { # COMMAND
+    case $1 in
+    gcc) echo gcc libc6-dev ;;
+    x86_64-linux-gnu-gcc) echo gcc-x86-64-linux-gnu libc6-dev-amd64-cross ;;
+    x86_64-linux-gnu-g++) echo g++-x86-64-linux-gnu ;;
+    qemu-x86_64) echo qemu-user ;;
+    *) echo "$1" ;;
+    esac
+}
+
+# Installs Debian packages where that may be done without asking, and else says how.
+install_packages() { # PACKAGE...
+    how="missing: $*; install with: apt-get install $*"
+    command -v apt-get >/dev/null || stop "$how"
+    if [ "$(id -u)" -eq 0 ]; then as=''; elif sudo -n true 2>/dev/null; then as='sudo -n'; else stop "$how"; fi
+    echo "${0##*/}: installing $*" >&2
+    { $as apt-get -qq update && $as env DEBIAN_FRONTEND=noninteractive apt-get -qq -y install "$@"; } >/dev/null || stop "$how"
+}
+
+# Sees to it that each of these commands is there.
+need() { # COMMAND...
+    missing=''
+    for c; do
+        command -v "$c" >/dev/null && continue
+        [ "$c" != rt ] || stop 'rt, the command of the Rattle toolchain, is not on the PATH'
+        missing="$missing $(package_of "$c")"
+    done
+    # shellcheck disable=SC2086
+    [ -z "$missing" ] || install_packages $missing
+}
+
+# The crate or must-fail edit whose log rt wrote last.
+rt_is_at() {
+    # shellcheck disable=SC2012
+    ls -t target/log/*.say target/must-fail/*/*/.log 2>/dev/null | sed -n '1s,^target/[^/]*/,,; 1s,\.say$,,; 1s,/\.log$,,; 1p'
+}
+
+# Says what rt is at and for how long so far: on a terminal in one line that is written anew, else every 30 s. Ends with the script that called it.
+watch_rt() {
+    began=$(date +%s) ticks=0
+    while sleep 1 >/dev/null 2>&1 && kill -0 $$ 2>/dev/null; do
+        ticks=$((ticks + 1)) at=$(rt_is_at)
+        line="proving ${at:-the first crate}, $(($(date +%s) - began)) s so far"
+        if [ -t 2 ]; then printf '\r\033[K%s' "$line" >&2; elif [ $((ticks % 30)) -eq 1 ]; then echo "$line" >&2; fi
+    done
+}
+
+# Shows on standard error what rt is at, until end_progress.
+show_progress() {
+    watch_rt &
+    watcher=$!
+}
+
+end_progress() {
+    kill "$watcher" 2>/dev/null || :
+    wait "$watcher" 2>/dev/null || :
+    [ ! -t 2 ] || printf '\r\033[K' >&2
+}
+
+# Proves the library and writes its archive, unless the archive is newer than all sources. What rt says is kept, and shown if it refuses.
+build_library() {
+    if [ -e "$LIBRARY" ] && [ -z "$(find crates crates.txt -newer "$LIBRARY")" ]; then return; fi
+    mkdir -p target/host
+    status=0
+    show_progress
+    rt staticlib trestlepip >target/host/rt.out 2>&1 || status=$?
+    end_progress
+    [ "$status" -eq 0 ] || { cat target/host/rt.out >&2; stop 'rt refuses the library'; }
+}
+
+# Compiles host/NAME.c with the other sources named and links it with the library, as target/host/NAME.
+build_host() { # NAME SOURCE...
+    program=target/host/$1 main=host/$1.c
+    shift
+    mkdir -p target/host
+    awk -f host/help-card.awk docs/HELP-CARD.md >target/host/help_card.h
+    # shellcheck disable=SC2086
+    "$CC" -std=c11 -O2 $WARNINGS $LINK -Iinclude -Itarget/host -o "$program" "$main" "$@" "$LIBRARY"
+}
