@@ -1,5 +1,5 @@
 # shellcheck shell=sh
-# Sourced from the root by ./morning and ./test: which compilers and emulator serve, what to install, how the library and the host's programs are built.
+# Sourced from the root by ./morning and ./test: which compilers and emulator serve, what to install, how the library and the programs are built.
 
 # The archive is for x86-64; on another machine the programs are built by a cross compiler, linked whole, and run by an emulator.
 # shellcheck disable=SC2034 # CXX and RUN are for the scripts that source this
@@ -7,7 +7,7 @@ case $(uname -m) in
 x86_64 | amd64) CC=gcc CXX=g++ LINK='' RUN='' ;;
 *) CC=x86_64-linux-gnu-gcc CXX=x86_64-linux-gnu-g++ LINK=-static RUN=qemu-x86_64 ;;
 esac
-WARNINGS='-Wall -Wextra -Wpedantic -Wconversion -Wshadow -Wstrict-prototypes -Wmissing-prototypes -Werror'
+WARNINGS='-Wall -Wextra -Wpedantic -Wconversion -Wshadow -Werror'
 LIBRARY=target/staticlib/libtrestlepip.a
 
 stop() { # WORDS...
@@ -57,8 +57,8 @@ rt_is_at() {
 watch_rt() {
     began=$(date +%s) ticks=0
     while sleep 1 >/dev/null 2>&1 && kill -0 $$ 2>/dev/null; do
-        ticks=$((ticks + 1)) at=$(rt_is_at)
-        line="proving ${at:-the first crate}, $(($(date +%s) - began)) s so far"
+        ticks=$((ticks + 1))
+        line="proving $(rt_is_at), $(($(date +%s) - began)) s so far"
         if [ -t 2 ]; then printf '\r\033[K%s' "$line" >&2; elif [ $((ticks % 30)) -eq 1 ]; then echo "$line" >&2; fi
     done
 }
@@ -70,7 +70,7 @@ show_progress() {
 }
 
 end_progress() {
-    kill "$watcher" 2>/dev/null || :
+    kill "$watcher"
     wait "$watcher" 2>/dev/null || :
     [ ! -t 2 ] || printf '\r\033[K' >&2
 }
@@ -78,20 +78,28 @@ end_progress() {
 # Proves the library and writes its archive, unless the archive is newer than all sources. What rt says is kept, and shown if it refuses.
 build_library() {
     if [ -e "$LIBRARY" ] && [ -z "$(find crates crates.txt -newer "$LIBRARY")" ]; then return; fi
-    mkdir -p target/host
+    mkdir -p target/c
     status=0
     show_progress
-    rt staticlib trestlepip >target/host/rt.out 2>&1 || status=$?
+    rt staticlib trestlepip >target/c/rt.out 2>&1 || status=$?
     end_progress
-    [ "$status" -eq 0 ] || { cat target/host/rt.out >&2; stop 'rt refuses the library'; }
+    [ "$status" -eq 0 ] || { cat target/c/rt.out >&2; stop 'rt refuses the library'; }
 }
 
-# Compiles host/NAME.c with the other sources named and links it with the library, as target/host/NAME.
-build_host() { # NAME SOURCE...
-    program=target/host/$1 main=host/$1.c
+# Compiles and links target/c/NAME from these sources and archives. The help card's lines come to C by a header made here.
+build() { # NAME SOURCE...
+    program=target/c/$1
     shift
-    mkdir -p target/host
-    awk -f host/help-card.awk docs/HELP-CARD.md >target/host/help_card.h
+    mkdir -p target/c
+    awk -f host/help-card.awk docs/HELP-CARD.md >target/c/help_card.h
     # shellcheck disable=SC2086
-    "$CC" -std=c11 -O2 $WARNINGS $LINK -Iinclude -Itarget/host -o "$program" "$main" "$@" "$LIBRARY"
+    "$CC" -std=c11 -O2 $WARNINGS -Wstrict-prototypes -Wmissing-prototypes $LINK -Iinclude -Itarget/c -o "$program" "$@"
 }
+
+# What each program is made of, but for the library and the second program.
+HOST='host/spool.c host/show.c host/text.c'
+MORNING="host/morning.c host/sheets.c $HOST"
+REFUSALS="host/test_refusals.c $HOST"
+SECOND='tests/second/second.c tests/second/state.c tests/second/form.c tests/second/line.c tests/second/copies.c'
+ROWS=tests/second/rows.c
+DRIVE='tests/second/drive.c tests/second/calls.c tests/second/counts.c'

@@ -1,0 +1,65 @@
+/* The generator: one call after another, from numbers that a seed decides. */
+#ifndef CALLS_H
+#define CALLS_H
+
+#include <stdbool.h>
+#include <stddef.h>
+#include <stdint.h>
+
+enum { STORES = 4, RECORD_ROOM = 10240, REPLY_ROOM = 64, OUT_ROOM = 26928 + 64, CHANGES_MOST = 3 };
+
+/* The lent stores, in the order of the interface. */
+enum store { STATE, PAGE, LEGENDS, TABLES };
+
+/* The right size of each store. */
+extern const size_t store_size[STORES];
+
+enum call_kind { CALL_START, CALL_COMMAND, CALL_COMPOSE, CALL_RELEASE };
+
+/* A byte of a store that is to be set before the call. */
+struct change {
+    enum store store;
+    size_t offset;
+    uint8_t value;
+};
+
+/* One call with all its numbers and lengths; `buffer_len` is that of the reply or the output. */
+struct call {
+    enum call_kind kind;
+    uint32_t form;
+    uint32_t pitch[4];
+    uint8_t command;
+    uint32_t copy;
+    uint8_t record[RECORD_ROOM];
+    size_t record_len;
+    size_t buffer_len;
+    size_t store_len[STORES];
+    bool null_if_empty;
+    struct change changes[CHANGES_MOST];
+    size_t change_count;
+    bool damaged[STORES];
+};
+
+/* What the generator keeps from call to call. */
+struct generator {
+    uint64_t word[4];
+    unsigned made;
+    struct change undo[CHANGES_MOST];
+    size_t undo_count;
+    unsigned damage_left;
+    unsigned percent_overprint;
+    unsigned percent_skip;
+    uint32_t copy_run;
+    const uint8_t *stores[STORES];
+};
+
+/* Makes the generator of one list; the stores are those whose state it looks at to choose well. */
+void generator_begin(struct generator *g, uint64_t seed, uint64_t list, const uint8_t *const stores[STORES]);
+
+/* Fills bytes at random. */
+void generator_fill(struct generator *g, uint8_t *bytes, size_t count);
+
+/* Makes the next call over the one before it; `answered` is the number that that one got. */
+void generator_next(struct generator *g, unsigned answered, struct call *c);
+
+#endif

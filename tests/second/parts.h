@@ -1,0 +1,91 @@
+/* The parts of the second program: the printer as a struct, and what each section of the paper says about it. */
+#ifndef SECOND_PARTS_H
+#define SECOND_PARTS_H
+
+#include <stdbool.h>
+#include <stddef.h>
+#include <stdint.h>
+
+enum {
+    STATE_BYTES = 184,
+    LINE_CELLS = 204,
+    PAGE_BYTES = 132 * LINE_CELLS,
+    LEGEND_BYTES = 8192,
+    SLOTS = 4,
+    SLOT_BYTES = 256,
+    TABLE_BYTES = SLOTS * SLOT_BYTES,
+    REPLY_BYTES = 24,
+    MODULES = 4,
+    FCB_MOST = 144,
+    SEQUENCE_MOST = 16,
+    SENSE_KEPT = 5,
+    LOAD_MOST = 8192,
+    HALF_INCH = 12,
+    SEGMENT_HEAD = 6
+};
+
+/* Causes in sense byte 1 of a data check. */
+enum { UNPRINTABLE = 0x80, NO_TABLE = 0x20, NO_MATCH = 0x10, MULTIPLE = 0x08 };
+
+/* The state, a member for each row of STATE.md; sense holds bytes 0, 1, 2, 22 and 23. */
+struct printer {
+    unsigned form;
+    uint32_t pitch[MODULES];
+    unsigned block;
+    unsigned fcb_count;
+    unsigned loaded[SLOTS];
+    unsigned selected;
+    unsigned sequence_count;
+    unsigned copy_number;
+    unsigned line;
+    unsigned written;
+    unsigned waiting;
+    unsigned reset_due;
+    uint8_t sense[SENSE_KEPT];
+    uint8_t sequence[SEQUENCE_MOST];
+    uint8_t fcb[FCB_MOST];
+};
+
+/* What a space or a skip does to the form. */
+struct movement {
+    unsigned line;
+    unsigned lines_moved;
+    bool completes;
+    bool channel_9;
+    bool channel_12;
+    bool no_match;
+};
+
+/* state.c */
+void decode(const uint8_t *bytes, struct printer *p);
+void encode(const struct printer *p, uint8_t *bytes);
+bool contents_of_a_printer(const struct printer *p, const uint8_t *legends);
+bool all_zero(const uint8_t *bytes, size_t count);
+
+/* form.c */
+bool form_listed(uint32_t form);
+bool pitches_listed(const uint32_t pitch[MODULES]);
+unsigned fcb_cause(unsigned form, const uint8_t *fcb, size_t count);
+void starting_fcb(struct printer *p);
+unsigned printable_lines(const struct printer *p);
+struct movement space(const struct printer *p, unsigned lines);
+struct movement skip(const struct printer *p, unsigned channel);
+bool page_started(const struct printer *p);
+
+/* line.c */
+void starting_tables(uint8_t *tables);
+unsigned translate(const struct printer *p, const uint8_t *tables, const uint8_t *bytes, size_t count, uint8_t *cells);
+unsigned write_line(const struct printer *p, const uint8_t *tables, const uint8_t *record, size_t count, uint8_t *page);
+
+/* copies.c */
+unsigned sequence_cause(const uint8_t *pairs, size_t count);
+unsigned copies_in_all(const struct printer *p);
+unsigned mark_of_copy(const struct printer *p, unsigned copy);
+unsigned legends_cause(const uint8_t *record, size_t count);
+bool legends_as_stored(const uint8_t *legends);
+unsigned load_legends(const struct printer *p, const uint8_t *tables, const uint8_t *record, size_t count, uint8_t *legends);
+const uint8_t *next_segment(const uint8_t *legends, const uint8_t *segment);
+bool segment_covers_copy(const uint8_t *segment, unsigned number);
+void compose_copy(const struct printer *p, unsigned number, const uint8_t *page, const uint8_t *legends, uint8_t *out);
+
+#endif

@@ -1,0 +1,107 @@
+/* The state's bytes, and the contents that no printer has. */
+#include "parts.h"
+
+#include <string.h>
+
+/* STATE.md: the row of single bytes 6 to 18, in its order. */
+static void decode_singles(const uint8_t *bytes, struct printer *p)
+{
+    p->block = bytes[6];
+    p->fcb_count = bytes[7];
+    p->selected = bytes[12];
+    p->sequence_count = bytes[13];
+    p->copy_number = bytes[14];
+    p->line = bytes[15];
+    p->written = bytes[16];
+    p->waiting = bytes[17];
+    p->reset_due = bytes[18];
+}
+
+/* STATE.md, read; any bytes are taken here and judged later. */
+void decode(const uint8_t *bytes, struct printer *p)
+{
+    p->form = bytes[0] * 256u + bytes[1];
+    decode_singles(bytes, p);
+    for (unsigned i = 0; i < 4; i++) {
+        p->pitch[i] = bytes[2 + i];
+        p->loaded[i] = bytes[8 + i];
+    }
+    memcpy(p->sense, bytes + 19, SENSE_KEPT);
+    memcpy(p->sequence, bytes + 24, SEQUENCE_MOST);
+    memcpy(p->fcb, bytes + 40, FCB_MOST);
+}
+
+/* STATE.md: bytes 6 to 18 again, written. */
+static void encode_singles(const struct printer *p, uint8_t *bytes)
+{
+    bytes[6] = (uint8_t)p->block;
+    bytes[7] = (uint8_t)p->fcb_count;
+    bytes[12] = (uint8_t)p->selected;
+    bytes[13] = (uint8_t)p->sequence_count;
+    bytes[14] = (uint8_t)p->copy_number;
+    bytes[15] = (uint8_t)p->line;
+    bytes[16] = (uint8_t)p->written;
+    bytes[17] = (uint8_t)p->waiting;
+    bytes[18] = (uint8_t)p->reset_due;
+}
+
+/* STATE.md, written. */
+void encode(const struct printer *p, uint8_t *bytes)
+{
+    bytes[0] = (uint8_t)(p->form / 256u);
+    bytes[1] = (uint8_t)(p->form % 256u);
+    encode_singles(p, bytes);
+    for (unsigned i = 0; i < 4; i++) {
+        bytes[2 + i] = (uint8_t)p->pitch[i];
+        bytes[8 + i] = (uint8_t)p->loaded[i];
+    }
+    memcpy(bytes + 19, p->sense, SENSE_KEPT);
+    memcpy(bytes + 24, p->sequence, SEQUENCE_MOST);
+    memcpy(bytes + 40, p->fcb, FCB_MOST);
+}
+
+/* Bytes not in use are 00, so that one printer has one state; a store is never longer than the legends here. */
+bool all_zero(const uint8_t *bytes, size_t count)
+{
+    static const uint8_t zeros[LEGEND_BYTES];
+    return memcmp(bytes, zeros, count) == 0;
+}
+
+/* STATE.md: slot 0 is loaded, and each other slot is or is not. */
+static bool slots_in_range(const struct printer *p)
+{
+    return p->loaded[0] == 1 && p->loaded[1] <= 1 && p->loaded[2] <= 1 && p->loaded[3] <= 1;
+}
+
+/* Numbers: forms control that its load would refuse is contents no printer has. */
+static bool fcb_in_range(const struct printer *p)
+{
+    return p->fcb_count <= FCB_MOST && fcb_cause(p->form, p->fcb, p->fcb_count) == 0
+        && all_zero(p->fcb + p->fcb_count, FCB_MOST - p->fcb_count);
+}
+
+/* Numbers: an overlay sequence that its load would refuse likewise. */
+static bool sequence_in_range(const struct printer *p)
+{
+    return p->sequence_count <= SEQUENCE_MOST && sequence_cause(p->sequence, p->sequence_count) == 0
+        && all_zero(p->sequence + p->sequence_count, SEQUENCE_MOST - p->sequence_count);
+}
+
+/* Numbers: line, marks and waiting page agree with each other; the forms control must have been judged before. */
+static bool page_in_range(const struct printer *p)
+{
+    if (p->written > 1 || p->waiting > 1 || p->reset_due > 1)
+        return false;
+    if (p->reset_due && !p->waiting)
+        return false;
+    if (p->written && p->waiting)
+        return false;
+    return p->line >= 1 && p->line <= printable_lines(p);
+}
+
+/* Numbers, 9: contents no printer has, without the sizes. */
+bool contents_of_a_printer(const struct printer *p, const uint8_t *legends)
+{
+    return form_listed(p->form) && pitches_listed(p->pitch) && p->block <= 1 && slots_in_range(p) && p->selected < SLOTS
+        && p->copy_number >= 1 && fcb_in_range(p) && sequence_in_range(p) && page_in_range(p) && legends_as_stored(legends);
+}
