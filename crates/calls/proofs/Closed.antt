@@ -294,7 +294,7 @@ good-calls w [] g = g
 good-calls w (c ∷ cs) g = good-calls (step w c .world) cs (good-call (w .core) c g)
 
 -- On such contents no call gets 9.
-no-9 : (k : Core) (c : Call) → coreOk k ≡ true → eqb (numberOf (refusalOf k c)) 9 ≡ false
+pub no-9 : (k : Core) (c : Call) → coreOk k ≡ true → eqb (numberOf (refusalOf k c)) 9 ≡ false
 unfolding refusalOf rowOf every
 no-9 k (command b r reply) e = command-number 9 k b r reply (inl (ap not e)) refl
 no-9 k (compose n out) e =

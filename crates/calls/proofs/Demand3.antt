@@ -23,7 +23,7 @@ compose-front : (k : Core) (n : ℕ) (out : List ℕ) (s t : Sense)
 unfolding perform doCompose refused
 compose-front k n out s t = by-outcome (λ (e : Effect). over (e .front s) out ≡ over (e .front t) out) k (compose n out) (λ a. refl) (λ a. refl)
 
-after-alike : (v w : World) (cs : List Call) → v .core ≡ w .core → worldAfter v cs .core ≡ worldAfter w cs .core
+pub after-alike : (v w : World) (cs : List Call) → v .core ≡ w .core → worldAfter v cs .core ≡ worldAfter w cs .core
 unfolding worldAfter step
 after-alike v w [] e = e
 after-alike v w (c ∷ cs) e = after-alike (step v c .world) (step w c .world) cs (ap (λ (k : Core). effect k c .core) e)

@@ -1,43 +1,52 @@
 -- A printer's bytes stand for that printer, and bytes that stand for a printer are that printer's bytes.
-use Prim.Native.Nat.{ℕ, zero, suc, _+_, _*_, _/_, _%_, _≤_, _<_}
-use mathlib.Core.Path.{_≡_, refl, ap, _∙_}
+use Prim.Native.Nat.{ℕ, zero, suc, _+_, _*_, _/_, _%_, _<_}
+use mathlib.Core.Path.{_≡_, refl, sym, ap, _∙_}
 use mathlib.Core.Bool.{Bool, true, false}
 use mathlib.Core.List.{List, [], _∷_, _++_, map}
 use native.Mathlib.Nat.{div-add-mod'}
 use native.Mathlib.Omega.{arith}
 use lib.ListN.{length, take, drop, getD, length-append, take-append-drop, length-drop}
-use lib.Seq.{take-at, drop-at, take-all, drop-cons, drop-drop, length-take-le}
+use lib.Seq.{take-at, drop-at, take-all, drop-drop, length-take-le}
 use lib.Dec.{eqb, leb}
+use mir.Val.{boolByte}
 use borrow.Author.Tests.{eqb-true, eq-eqb, leb-true}
-use Rattle.seq.specs.Words.{all, bit, listed, from, zeros}
+use Rattle.seq.specs.Words.{all, listed, from, zeros}
 use Rattle.seq.proofs.Laws.{every-at, every-of, finally, also, listed-all, spelled, four}
+use Rattle.calls.specs.declared.State.{State}
 use Rattle.calls.specs.Core.{Stores}
 use Rattle.calls.specs.Start.{noState, noPrinter}
 use Rattle.printer.specs.declared.Printer.{Printer}
 use Rattle.trestlepip.specs.State.{stateSize, bytesOf, printerOf, readable, flagPlaces, byteAt, flagAt}
 use Rattle.trestlepip.specs.Face.{printerIn}
 
--- the arrays are as long as their types say
-pub record Sized (p : Printer) : Type 0 where
-  pub pitches : length (p .state .fixed .pitches) ≡ 4
-  pub loaded : length (p .state .slots .loaded) ≡ 4
-  pub pairs : length (p .state .copies .pairs) ≡ 16
-  pub fcb : length (p .state .forms .fcb) ≡ 144
+-- the arrays are as long as their types say: pitches, slots loaded, the overlay sequence's pairs, the FCB's bytes
+pub record Lengths (ps : List ℕ) (slots : List Bool) (qs f : List ℕ) : Type 0 where
+  pub pitches : length ps ≡ 4
+  pub loaded : length slots ≡ 4
+  pub pairs : length qs ≡ 16
+  pub fcb : length f ≡ 144
+
+abbrev pub SizedState : State → Type 0
+SizedState s = Lengths (s .fixed .pitches) (s .slots .loaded) (s .copies .pairs) (s .forms .fcb)
+
+abbrev pub Sized : Printer → Type 0
+Sized p = SizedState (p .state)
 
 -- a flag as a byte, and back
-bit-small : (b : Bool) → leb (bit b 1) 1 ≡ true
+bit-small : (b : Bool) → leb (boolByte b) 1 ≡ true
 bit-small true = refl
 bit-small false = refl
 
-bit-flag : (b : Bool) → eqb (bit b 1) 1 ≡ b
+bit-flag : (b : Bool) → eqb (boolByte b) 1 ≡ b
 bit-flag true = refl
 bit-flag false = refl
 
-flag-bit : (n : ℕ) → leb n 1 ≡ true → bit (eqb n 1) 1 ≡ n
+flag-bit : (n : ℕ) → leb n 1 ≡ true → boolByte (eqb n 1) ≡ n
 flag-bit zero e = refl
 flag-bit (suc zero) e = refl
 flag-bit (suc (suc n)) e = absurd (omega (arith, leb-true (suc (suc n)) 1 e))
 
+-- four flags, one by one
 four-flags : (l : List Bool) → length l ≡ 4 → getD l 0 false ∷ getD l 1 false ∷ getD l 2 false ∷ getD l 3 false ∷ [] ≡ l
 four-flags l e = spelled false 0 4 l (omega arith) ∙ take-all 4 l (omega arith)
 
@@ -54,6 +63,7 @@ readable-bytes : (p : Printer) → Sized p → readable (bytesOf p) ≡ true
 unfolding readable
 readable-bytes p z = every-of (also (eq-eqb _ _ (long p z)) (also (flagged p) finally))
 
+-- each field comes back
 parts : (p : Printer) → Sized p → printerOf (bytesOf p) ≡ p
 unfolding bytesOf printerOf
 parts p z =
@@ -76,7 +86,7 @@ pub readable-size : (s : List ℕ) → readable s ≡ true → length s ≡ stat
 unfolding readable
 readable-size s e = eqb-true _ _ (every-at 0 _ e)
 
-flag-at : (s : List ℕ) → readable s ≡ true → (n : ℕ) → listed flagPlaces n ≡ true → bit (flagAt s n) 1 ≡ byteAt s n
+flag-at : (s : List ℕ) → readable s ≡ true → (n : ℕ) → listed flagPlaces n ≡ true → boolByte (flagAt s n) ≡ byteAt s n
 unfolding readable
 flag-at s e n h = flag-bit (byteAt s n) (listed-all (λ k. leb (byteAt s k) 1) n flagPlaces (every-at 1 _ e) h)
 
@@ -103,6 +113,7 @@ cut s e =
       take-append-drop 24 s,
     )
 
+-- the bytes of a number of two, high byte first
 high : (a b : ℕ) → b < 256 → (a * 256 + b) / 256 ≡ a
 high a b h = omega arith
 
@@ -126,6 +137,10 @@ back s h e =
       flag-at s e 18 refl,
     )
     (cut s (readable-size s e))
+
+-- Two states that are different bytes are different printers.
+pub same-bytes : (s t : List ℕ) → byteAt s 1 < 256 → byteAt t 1 < 256 → readable s ≡ true → readable t ≡ true → printerOf s ≡ printerOf t → s ≡ t
+same-bytes s t h k d e p = sym (back s h d) ∙ ap bytesOf p ∙ back t k e
 
 -- A refused Start hands back bytes that are all zero.
 pub zeros-no : (m : Stores) → bytesOf (printerIn (noPrinter m)) ≡ zeros stateSize

@@ -1,7 +1,7 @@
 -- Document 01, "Calls": the four calls as a C host makes them, over the state's bytes.
 use Prim.Native.Nat.{ℕ}
 use mathlib.Core.Bool.{cond}
-use mathlib.Core.List.{List, []}
+use mathlib.Core.List.{List, [], _∷_}
 use lib.Dec.{eqb}
 use lib.ListN.{length}
 use Rattle.numbers.specs.declared.Refusal.the-variants.{BadStore}
@@ -42,3 +42,25 @@ callBytes s m c = cond (readable s) (shown (step (worldOf (printerOf s) m) c)) (
 -- Start reads no state; it needs only the room for one.
 unfoldable pub startBytes : ℕ → List ℕ → List ℕ → Stores → Called
 startBytes form pitches s m = cond (eqb (length s) stateSize) (shown (startOutcome form pitches m)) (unread [] s m)
+
+-- What a host holds between calls: the state's bytes and the stores; and what a list of calls leaves of it, where each gets what the one before it
+-- left.
+pub record Held : Type 0 where
+  pub state : List ℕ
+  pub stores : Stores
+
+abbrev pub held : List ℕ → Stores → Held
+held s m = record { state = s; stores = m }
+
+abbrev pub heldOf : Called → Held
+heldOf k = held (k .state) (k .stores)
+
+abbrev pub callOn : Held → Call → Called
+callOn h c = callBytes (h .state) (h .stores) c
+
+unfoldable pub bytesAfter : Held → List Call → Held
+bytesAfter h [] = h
+bytesAfter h (c ∷ cs) = bytesAfter (heldOf (callOn h c)) cs
+
+abbrev pub heldIn : World → Held
+heldIn w = held (bytesOf (printerIn w)) (w .core .stores)

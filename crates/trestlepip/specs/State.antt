@@ -4,7 +4,8 @@ use mathlib.Core.Bool.{Bool, false}
 use mathlib.Core.List.{List, [], _∷_, _++_}
 use lib.Dec.{eqb, leb}
 use lib.ListN.{length, take, drop, getD}
-use Rattle.seq.specs.Words.{all, bit, every}
+use mir.Val.{boolByte}
+use Rattle.seq.specs.Words.{all, every}
 use Rattle.form.specs.Form.{fcbSize}
 use Rattle.copies.specs.Copies.{pairSize}
 use Rattle.printer.specs.declared.Printer.{Printer}
@@ -12,7 +13,7 @@ use Rattle.printer.specs.declared.Printer.{Printer}
 abbrev pub stateSize : ℕ
 stateSize = 184
 
--- Bytes 0 to 23: what is no array but of four.
+-- Bytes 0 to 23: all but the two large arrays. A flag is 1 or 0.
 abbrev pub smallBytes : Printer → List ℕ
 smallBytes p =
     let s = p .state in
@@ -22,19 +23,19 @@ smallBytes p =
     ∷ getD (s .fixed .pitches) 1 0
     ∷ getD (s .fixed .pitches) 2 0
     ∷ getD (s .fixed .pitches) 3 0
-    ∷ bit (s .blocked) 1
+    ∷ boolByte (s .blocked)
     ∷ s .forms .count
-    ∷ bit (getD (s .slots .loaded) 0 false) 1
-    ∷ bit (getD (s .slots .loaded) 1 false) 1
-    ∷ bit (getD (s .slots .loaded) 2 false) 1
-    ∷ bit (getD (s .slots .loaded) 3 false) 1
+    ∷ boolByte (getD (s .slots .loaded) 0 false)
+    ∷ boolByte (getD (s .slots .loaded) 1 false)
+    ∷ boolByte (getD (s .slots .loaded) 2 false)
+    ∷ boolByte (getD (s .slots .loaded) 3 false)
     ∷ s .slots .selected
     ∷ s .copies .count
     ∷ s .copies .reference
     ∷ s .sheet .line
-    ∷ bit (s .sheet .written) 1
-    ∷ bit (s .sheet .waiting) 1
-    ∷ bit (s .sheet .due) 1
+    ∷ boolByte (s .sheet .written)
+    ∷ boolByte (s .sheet .waiting)
+    ∷ boolByte (s .sheet .due)
     ∷ p .sense .b0
     ∷ p .sense .b1
     ∷ p .sense .b2

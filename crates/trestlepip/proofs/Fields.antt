@@ -1,0 +1,245 @@
+-- The fields of a packed answer come back: none ever spills into another.
+use Prim.Native.Nat.{ℕ, zero, suc, _-_, _/_, _%_, _^_, _≤_, _<_}
+use mathlib.Core.Path.{_≡_, refl}
+use mathlib.Core.Bool.{Bool, true, false, cond, not, _&&_, _||_}
+use mathlib.Core.List.{List, [], _∷_}
+use native.Mathlib.Omega.{arith}
+use lib.ListN.{length}
+use lib.Dec.{eqb, leb, ltb, lit≤}
+use borrow.Author.Tests.{ltb-true, ltb-false}
+use Rattle.seq.specs.Words.{any, bit}
+use Rattle.seq.proofs.Laws.{or-left, or-right, cond-has, passed}
+use Rattle.numbers.specs.declared.Answer.{Answer}
+use Rattle.numbers.specs.declared.Cause.{Cause}
+use Rattle.numbers.specs.declared.Cause.the-variants.{FcbChannel, FcbSpacing, FcbSum, FcbEdge, TableShort, SequencePairs, SequenceCounts, NumberRecord, SegmentEnds, SegmentFields}
+use Rattle.numbers.specs.declared.Checked.the-variants.{Sound}
+use Rattle.numbers.specs.declared.Refusal.{Refusal}
+use Rattle.numbers.specs.declared.Refusal.the-variants.{Accepted, NotListed, BadRecord, LoadCheck, PageWaiting, PageStarted, NoPage, BadIndex, TooShort, BadStore, BadForm, TwoPages}
+use Rattle.numbers.specs.Numbers.{causeOf, rowOf, numberOf, isAccepted, only}
+use Rattle.numbers.proofs.Laws.{faulty, accepted-is}
+use Rattle.form.specs.declared.Motion.{Motion}
+use Rattle.form.specs.declared.Motion.the-variants.{Space, Skip}
+use Rattle.form.specs.declared.Moved.{Moved}
+use Rattle.form.specs.Movement.{Spot, entered, spaced, moved, still, toTop}
+use Rattle.form.proofs.FormLaws.{form-listed, few-lines}
+use Rattle.form.proofs.MovementLaws.{skipped-most}
+use Rattle.line.specs.declared.Causes.{Causes}
+use Rattle.line.specs.Line.{causeByte}
+use Rattle.copies.specs.declared.Copies.{Copies}
+use Rattle.copies.specs.Copies.{badPair, sequenceCheck, markIn, sequenceNow, copyCount, copyMark}
+use Rattle.copies.proofs.CopiesLaws.{few-copies, number-most}
+use Rattle.calls.specs.declared.Command.{Command}
+use Rattle.calls.specs.declared.Command.the-variants.{Write, Move, Controls, Loads, Unlisted}
+use Rattle.calls.specs.Core.{Stores, Core, World, linesNow, P, started}
+use Rattle.calls.specs.Commands.{decode, controlTraits}
+use Rattle.calls.specs.Contents.{coreOk}
+use Rattle.calls.specs.Effects.{Effect, refused, done, moveOf}
+use Rattle.calls.specs.Calls.{Call, command, compose, release, movement, refusalOf, copyAt, doCompose, doRelease, perform, sizeOf, lent, Outcome, step}
+use Rattle.calls.specs.Start.{startOutcome}
+use Rattle.calls.proofs.Good.{good}
+use Rattle.calls.proofs.Accepted.{taken, composable}
+use Rattle.calls.proofs.Refused.{by-outcome}
+use Rattle.calls.proofs.Answers.{Shape, sets, quiet, shape}
+use Rattle.printer.specs.Whole.{worldOf}
+use Rattle.trestlepip.specs.State.{stateSize, byteAt, printerOf, readable}
+use Rattle.trestlepip.specs.Packed.{causeNumber, packed}
+use Rattle.trestlepip.specs.Face.{shown, unread, callBytes, startBytes}
+
+-- so many bits of n from bit low on, as trestlepip_field of the C header takes them
+abbrev pub field : ℕ → ℕ → ℕ → ℕ
+field n low bits = n / 2 ^ low % 2 ^ bits
+
+-- what each field has room for
+pub record Fits (a : Answer) : Type 0 where
+  pub status : a .status < 256
+  pub mark : a .mark ≤ 1
+  pub lines : a .lines < 256
+  pub copy : a .copy < 512
+
+-- the seven, each where the C header says, and no bit above them
+pub record Unpacked (a : Answer) : Type 0 where
+  pub number : field (packed a) 0 8 ≡ numberOf (a .refusal)
+  pub status : field (packed a) 8 8 ≡ a .status
+  pub ready : field (packed a) 16 1 ≡ bit (a .ready) 1
+  pub mark : field (packed a) 17 1 ≡ a .mark
+  pub cause : field (packed a) 18 6 ≡ causeNumber (a .refusal)
+  pub lines : field (packed a) 24 8 ≡ a .lines
+  pub copy : field (packed a) 32 9 ≡ a .copy
+  pub above : packed a < 2 ^ 41
+
+-- a flag's bit, and a cause's number
+bit-most : (b : Bool) (n : ℕ) → bit b n ≤ n
+bit-most true n = omega arith
+bit-most false n = omega arith
+
+cause-most : (c : Cause) → causeOf 0 c .number ≤ 10
+unfolding causeOf
+cause-most FcbChannel = lit≤ tt
+cause-most FcbSpacing = lit≤ tt
+cause-most FcbSum = lit≤ tt
+cause-most FcbEdge = lit≤ tt
+cause-most TableShort = lit≤ tt
+cause-most SequencePairs = lit≤ tt
+cause-most SequenceCounts = lit≤ tt
+cause-most NumberRecord = lit≤ tt
+cause-most SegmentEnds = lit≤ tt
+cause-most SegmentFields = lit≤ tt
+
+-- the numbers of each refusal and its cause, and its status, are small
+record Small (n : ℕ) (x : Refusal) : Type 0 where
+  pub number : numberOf x ≤ 11
+  pub cause : causeNumber x ≤ 10
+  pub status : rowOf n x .status ≤ 16
+
+small : (n : ℕ) (x : Refusal) → Small n x
+unfolding rowOf
+small n Accepted = record { number = lit≤ tt; cause = lit≤ tt; status = lit≤ tt }
+small n NotListed = record { number = lit≤ tt; cause = lit≤ tt; status = lit≤ tt }
+small n BadRecord = record { number = lit≤ tt; cause = lit≤ tt; status = lit≤ tt }
+small n (LoadCheck c) = record { number = lit≤ tt; cause = cause-most c; status = lit≤ tt }
+small n PageWaiting = record { number = lit≤ tt; cause = lit≤ tt; status = lit≤ tt }
+small n PageStarted = record { number = lit≤ tt; cause = lit≤ tt; status = lit≤ tt }
+small n NoPage = record { number = lit≤ tt; cause = lit≤ tt; status = lit≤ tt }
+small n BadIndex = record { number = lit≤ tt; cause = lit≤ tt; status = lit≤ tt }
+small n TooShort = record { number = lit≤ tt; cause = lit≤ tt; status = lit≤ tt }
+small n BadStore = record { number = lit≤ tt; cause = lit≤ tt; status = lit≤ tt }
+small n BadForm = record { number = lit≤ tt; cause = lit≤ tt; status = lit≤ tt }
+small n TwoPages = record { number = lit≤ tt; cause = lit≤ tt; status = lit≤ tt }
+
+-- The number comes back of every answer, whatever its other fields are.
+pub number-back : (a : Answer) → field (packed a) 0 8 ≡ numberOf (a .refusal)
+unfolding packed
+number-back a = omega (arith, small 0 (a .refusal) .number)
+
+-- The fields of an answer that fits them come back.
+pub fields : (a : Answer) → Fits a → Unpacked a
+unfolding packed
+fields a h =
+    let x : Small 0 (a .refusal) = small 0 (a .refusal) in
+    let r : bit (a .ready) 1 ≤ 1 = bit-most (a .ready) 1 in
+    record {
+      number = number-back a;
+      status = omega arith;
+      ready = omega arith;
+      mark = omega arith;
+      cause = omega arith;
+      lines = omega arith;
+      copy = omega arith;
+      above = omega arith;
+    }
+
+-- An answer that tells nothing but number and status, as every refusal does.
+only-fits : (x : Refusal) (n : ℕ) → n < 256 → Fits (only x n)
+only-fits x n h = record { status = h; mark = lit≤ tt; lines = lit≤ tt; copy = lit≤ tt }
+
+-- what an accepted command tells besides is its lines
+done-fits : (k : Core) (c : Causes) (m : Moved) → m .lines < 256 → Fits (done k c m .answer)
+unfolding done rowOf
+done-fits k c m h =
+    let check = not (eqb (causeByte (k .state .blocked) c) 0) in
+    record { status = omega (arith, bit-most (check || m .nine) 0x02, bit-most (m .twelve) 0x01); mark = lit≤ tt; lines = h; copy = lit≤ tt }
+
+-- The lines that a movement has: a space from line c of p enters those after c, and line 1 of the next form; a skip goes round the p.
+entered-few : (p c n : ℕ) → length (entered p c n) ≤ suc (p - c)
+unfolding entered
+entered-few p c zero = omega arith
+entered-few p c (suc n) =
+    cond-has (λ (l : List Spot). length l ≤ suc (p - c)) (ltb c p)
+    (λ e. omega (arith, ltb-true c p e, entered-few p (suc c) n)) (λ e. omega arith)
+
+moved-few : (ls : List ℕ) (c : ℕ) (m : Motion) → 1 ≤ c → c ≤ length ls → moved ls c m .lines ≤ length ls
+unfolding moved spaced
+moved-few ls c (Space n) a b = omega (arith, entered-few (length ls) c n)
+moved-few ls c (Skip channel) a b = skipped-most ls c b (omega arith) channel
+
+-- a command's movement, on contents that a printer can have, and what any listed command tells
+module _ (k : Core) (ok : coreOk k ≡ true) where
+  form-few : P (k .state) ≤ 132
+  unfolding linesNow
+  form-few =
+      let g = good k ok in
+      few-lines (k .state .fixed .length) _ (form-listed (k .state .fixed .length) (k .state .fixed .pitches) (g .fixed)) (g .forms .taken)
+
+  move-few : (m : Motion) → moveOf (k .state) m .lines < 256
+  unfolding moveOf
+  move-few m =
+      let s = good k ok .sheet in
+      omega (arith, form-few, moved-few (linesNow (k .state)) (k .state .sheet .line) m (s .low) (s .high))
+
+  movement-few : (c : Command) → movement k c .lines < 256
+  unfolding movement still toTop
+  movement-few (Write m) = move-few m
+  movement-few (Move m) = move-few m
+  movement-few (Controls c) =
+      cond-has (λ (v : Moved). v .lines < 256) (controlTraits c .completes && started (k .state .sheet)) (λ t. lit≤ tt) (λ t. lit≤ tt)
+  movement-few (Loads l) = lit≤ tt
+  movement-few Unlisted = lit≤ tt
+
+  command-fits : {c : Command} {e : Effect} → Shape k c e → Fits (e .answer)
+  unfolding rowOf
+  command-fits {c} (sets k′ x q e) = rw e (done-fits k′ x (movement k c) (movement-few c))
+  command-fits (quiet s f q m e) = rw e (only-fits Accepted _ (lit≤ tt))
+
+-- The mark that Compose tells is one of the sequence's, so 0 or 1.
+mark-in : (k : ℕ) (ps : List (ℕ × ℕ)) → any badPair ps ≡ false → markIn k ps ≤ 1
+unfolding markIn
+mark-in k [] e = lit≤ tt
+mark-in k (p ∷ ps) e =
+    cond-has (λ (n : ℕ). n ≤ 1) (leb k (p .0))
+    (λ t. ltb-false 1 (p .1) (or-right (eqb (p .0) 0) _ (or-left (badPair p) _ e))) (λ t. mark-in (k - p .0) ps (or-right (badPair p) _ e))
+
+mark-most : (c : Copies) (k : ℕ) → sequenceCheck (sequenceNow c) ≡ Sound → copyMark c k ≤ 1
+unfolding copyMark sequenceCheck
+mark-most c k e = mark-in k _ (or-left _ _ (passed _ _ faulty (passed _ _ faulty e .1) .0))
+
+-- copy number and mark of an accepted Compose
+copy-fits : (k : Core) (n : ℕ) (out : List ℕ) → k .state .copies .reference ≤ 255 → isAccepted (refusalOf k (compose n out)) ≡ true
+    → Fits (doCompose k n .answer)
+unfolding doCompose copyAt refusalOf copyCount
+copy-fits k n out h e =
+    let c = composable k n out (accepted-is _ e) in
+    let g = good k (c .ok) .copies in
+    record {
+      status = lit≤ tt;
+      mark = mark-most (k .state .copies) n (g .taken);
+      lines = lit≤ tt;
+      copy = omega (arith, number-most (k .state .copies) n h (omega (arith, c .high, few-copies _ (g .taken))));
+    }
+
+-- every accepted call
+perform-fits : (k : Core) (c : Call) → k .state .copies .reference ≤ 255 → isAccepted (refusalOf k c) ≡ true → Fits (perform k c .answer)
+unfolding perform doRelease
+perform-fits k (command b r reply) h e =
+    let t = taken k b r reply e in
+    command-fits k (t .ok) (shape k (decode b) r (t .known))
+perform-fits k (compose n out) h e = copy-fits k n out h e
+perform-fits k release h e = only-fits Accepted 0 (lit≤ tt)
+
+-- Every answer fits its fields, on a state whose copy number reference is a byte; Start's always does.
+pub step-fits : (w : World) (c : Call) → w .core .state .copies .reference ≤ 255 → Fits (step w c .answer)
+unfolding step refused
+step-fits w c h =
+    by-outcome (λ (e : Effect). Fits (e .answer)) (w .core) c (perform-fits (w .core) c h) (λ e. only-fits _ _ (omega (arith, small (sizeOf c) (refusalOf (w .core) c) .status)))
+
+pub start-fits : (len : ℕ) (ps : List ℕ) (m : Stores) → Fits (startOutcome len ps m .answer)
+unfolding startOutcome
+start-fits len ps m = only-fits _ 0 (lit≤ tt)
+
+-- So what a C host takes out of a call's 64 bits is what the call answered, whatever bytes it was lent; and likewise of Start.
+abbrev pub Tells : ℕ → Answer → Type 0
+Tells n a = (n ≡ packed a) × Unpacked a
+
+tells : (t : Bool) (o : Outcome) (buffer s : List ℕ) (m : Stores) → Fits (o .answer)
+    → Tells (cond t (shown o) (unread buffer s m) .answer) (cond t (o .answer) (only BadStore 0))
+tells true o buffer s m h = (refl, fields (o .answer) h)
+tells false o buffer s m h = (refl, fields (only BadStore 0) (only-fits BadStore 0 (lit≤ tt)))
+
+pub call-tells : (s : List ℕ) (m : Stores) (c : Call) → byteAt s 14 ≤ 255
+    → Tells (callBytes s m c .answer) (cond (readable s) (step (worldOf (printerOf s) m) c .answer) (only BadStore 0))
+unfolding callBytes printerOf
+call-tells s m c h = tells (readable s) (step (worldOf (printerOf s) m) c) (lent c) s m (step-fits (worldOf (printerOf s) m) c h)
+
+pub start-tells : (len : ℕ) (ps s : List ℕ) (m : Stores)
+    → Tells (startBytes len ps s m .answer) (cond (eqb (length s) stateSize) (startOutcome len ps m .answer) (only BadStore 0))
+unfolding startBytes
+start-tells len ps s m = tells (eqb (length s) stateSize) (startOutcome len ps m) [] s m (start-fits len ps m)
