@@ -14,7 +14,6 @@ use Rattle.numbers.proofs.Laws.{accepted-is}
 use Rattle.calls.specs.Core.{Stores, Core, World}
 use Rattle.calls.specs.Contents.{coreOk}
 use Rattle.calls.specs.Reset.{fresh}
-use Rattle.calls.specs.Effects.{loaded}
 use Rattle.calls.specs.Calls.{Call, compose, refusalOf, effect, lent, step}
 use Rattle.calls.specs.Start.{startRefusal, startWorld, noState, noPrinter, startOutcome}
 use Rattle.calls.specs.Lists.{worldAfter, sinceReset}
