@@ -8,8 +8,10 @@ const size_t store_size[STORES] = { 184, 26928, 8192, 1024 };
 enum { LINE_CELLS = 204, WRITE_MOST = 204, LOAD_MOST = 8192, SLOT_BYTES = 256, REPLY_BYTES = 24, HEAD = 6, SEGMENT_LEAST = 7 };
 
 /* Places in the state that the generator looks at; STATE.md. */
-enum { AT_FORM = 0, AT_PITCH = 2, AT_FCB_COUNT = 7, AT_LOADED = 8, AT_SEQUENCE_COUNT = 13, AT_NUMBER = 14, AT_LINE = 15, AT_WRITTEN = 16, AT_WAITING = 17,
-    AT_RESET_DUE = 18, AT_SEQUENCE = 24, AT_FCB = 40 };
+enum {
+    AT_FORM = 0, AT_PITCH = 2, AT_FCB_COUNT = 7, AT_LOADED = 8, AT_SEQUENCE_COUNT = 13, AT_NUMBER = 14, AT_LINE = 15, AT_WRITTEN = 16,
+    AT_WAITING = 17, AT_RESET_DUE = 18, AT_SEQUENCE = 24, AT_FCB = 40
+};
 
 static const unsigned forms[] = { 72, 84, 96, 132, 144, 168, 192, 204, 240, 264, 288 };
 
@@ -73,13 +75,18 @@ static uint8_t byte(struct generator *g)
     return (uint8_t)(next(g) >> 56);
 }
 
+static unsigned sum_of(const unsigned *weights, size_t count)
+{
+    unsigned sum = 0;
+    for (size_t i = 0; i < count; i++)
+        sum += weights[i];
+    return sum;
+}
+
 /* The place of one weight among some, each as likely as it is heavy. */
 static unsigned weighted(struct generator *g, const unsigned *weights, size_t count)
 {
-    unsigned sum = 0, i = 0;
-    for (size_t k = 0; k < count; k++)
-        sum += weights[k];
-    unsigned at = below(g, sum);
+    unsigned i = 0, at = below(g, sum_of(weights, count));
     while (at >= weights[i])
         at -= weights[i++];
     return i;
@@ -352,7 +359,7 @@ static void fcb_record(struct generator *g, struct call *c)
     case 1: c->record_len = fcb_fault(g, c->record, c->record_len); break;
     case 2: c->record_len = fcb_fault(g, c->record, c->record_len - 4); break;
     case 3: c->record_len = fcb_taken(g, fcb_form(g, true), c->record); break;
-    case 4: c->record_len = between(g, 145, LOAD_MOST); memset(c->record, percent(g, 50) ? 0x30 : 0x00, c->record_len); break;
+    case 4: c->record_len = 6 * (size_t)between(g, 25, LOAD_MOST / 6); memset(c->record, percent(g, 50) ? 0x30 : 0x00, c->record_len); break;
     case 5: c->record_len = 0; break;
     default: c->record_len = LOAD_MOST + 1; break;
     }
@@ -588,12 +595,12 @@ static void sense_command(struct generator *g, struct call *c)
 static void control_command(struct generator *g, struct call *c)
 {
     any_record(g, c, ignored_length(g));
-    switch (WEIGHTED(g, 34, 10, 10, 9, 25, 6, 6)) {
+    switch (started_now(g) ? WEIGHTED(g, 34, 10, 10, 9, 25, 6, 6) : WEIGHTED(g, 25, 8, 10, 9, 25, 18, 5)) {
     case 0: sense_command(g, c); break;
     case 1: c->command = 0x03; break;
     case 2: c->command = 0x73; break;
     case 3: c->command = 0x7B; break;
-    case 4: c->command = (uint8_t)(0x47 + 0x10 * (percent(g, 65) ? slot_near(g) : below(g, 4))); break;
+    case 4: c->command = (uint8_t)(0x47 + 0x10 * (percent(g, 40) ? slot_near(g) : below(g, 4))); break;
     case 5: c->command = 0x37; break;
     default: c->command = 0x87; break;
     }
@@ -758,11 +765,19 @@ static size_t damage_offset(struct generator *g, enum store store)
     return below(g, store_size[store]);
 }
 
-/* A byte is to be set before the call; the old one is kept to be put back. */
-static void set_byte(struct generator *g, struct call *c, enum store store, size_t offset, uint8_t value)
+/* Bytes are to be set before the call; the old ones are kept to be put back. */
+static void set_bytes(struct generator *g, struct call *c, enum store store, size_t offset, const uint8_t *bytes, size_t count)
 {
-    g->undo[g->undo_count++] = (struct change){ store, offset, g->stores[store][offset] };
-    c->changes[c->change_count++] = (struct change){ store, offset, value };
+    struct change *undo = &g->undo[g->undo_count++], *change = &c->changes[c->change_count++];
+    *undo = (struct change){ .store = store, .offset = offset, .count = count };
+    *change = *undo;
+    memcpy(undo->bytes, g->stores[store] + offset, count);
+    memcpy(change->bytes, bytes, count);
+}
+
+static void set_byte(struct generator *g, struct call *c, enum store store, size_t offset, unsigned value)
+{
+    set_bytes(g, c, store, offset, (const uint8_t[]){ (uint8_t)value }, 1);
 }
 
 /* Any byte of any store. */
@@ -773,24 +788,87 @@ static void damage_byte(struct generator *g, struct call *c)
     set_byte(g, c, store, offset, other_value(g, g->stores[store][offset]));
 }
 
-/* A page that waits though none was completed, in a state that is a printer's otherwise. */
+/* One of the state's fields of a byte, from the pitches to the reset due, set to a value next to its range. */
+static void damage_field(struct generator *g, struct call *c)
+{
+    static const uint8_t outside[] = { 0, 1, 11, 16, 2, 145, 0, 2, 2, 2, 4, 18, 0, 133, 2, 2, 2 };
+    unsigned field = below(g, COUNT(outside));
+    set_byte(g, c, STATE, AT_PITCH + field, outside[field]);
+}
+
+/* A page that waits though none was completed, in a state that is mostly a printer's otherwise. */
 static void damage_to_waiting(struct generator *g, struct call *c)
 {
-    set_byte(g, c, STATE, AT_WRITTEN, 0);
+    set_byte(g, c, STATE, AT_WRITTEN, percent(g, 15));
     set_byte(g, c, STATE, AT_WAITING, 1);
-    set_byte(g, c, STATE, AT_RESET_DUE, (uint8_t)below(g, 2));
+    set_byte(g, c, STATE, AT_RESET_DUE, below(g, 2));
+}
+
+/* Another line of the form, often the last or the one after it. */
+static void damage_line(struct generator *g, struct call *c)
+{
+    unsigned last = lines_now(g);
+    switch (below(g, 4)) {
+    case 0: set_byte(g, c, STATE, AT_LINE, last); break;
+    case 1: set_byte(g, c, STATE, AT_LINE, last + 1); break;
+    case 2: set_byte(g, c, STATE, AT_LINE, between(g, 1, last)); break;
+    default: set_byte(g, c, STATE, AT_LINE, 0); break;
+    }
+}
+
+/* A whole FCB in the state, taken by its load or not; the call's record is not made yet and serves to make it. */
+static void damage_fcb(struct generator *g, struct call *c)
+{
+    memset(c->record, 0, CHANGE_MOST);
+    fcb_record(g, c);
+    size_t count = c->record_len < 144 ? c->record_len : 144;
+    memset(c->record + count, 0, 144 - count);
+    set_byte(g, c, STATE, AT_FCB_COUNT, (unsigned)count);
+    set_bytes(g, c, STATE, AT_FCB, c->record, 144);
+}
+
+/* A whole overlay sequence in the state likewise. */
+static void damage_sequence(struct generator *g, struct call *c)
+{
+    sequence_record(g, c);
+    size_t count = c->record_len < 16 ? c->record_len : 16;
+    memset(c->record + count, 0, 16 - count);
+    set_byte(g, c, STATE, AT_SEQUENCE_COUNT, (unsigned)count);
+    set_bytes(g, c, STATE, AT_SEQUENCE, c->record, 16);
+}
+
+/* Legends over the front of the store, taken by their load or not. */
+static void damage_legends(struct generator *g, struct call *c)
+{
+    legends_record(g, c);
+    set_bytes(g, c, LEGENDS, 0, c->record, c->record_len < CHANGE_MOST ? c->record_len : CHANGE_MOST);
+}
+
+/* Cells on the page: no call cares before a write, and none but Start and Release may clean them. */
+static void damage_page(struct generator *g, struct call *c)
+{
+    uint8_t cells[8];
+    generator_fill(g, cells, sizeof cells);
+    set_bytes(g, c, PAGE, below(g, store_size[PAGE] - sizeof cells), cells, sizeof cells);
 }
 
 /* The stores are damaged for this call and some after it. */
 static void damage(struct generator *g, struct call *c)
 {
-    g->damage_left = between(g, 1, 5);
-    if (percent(g, 12))
-        damage_to_waiting(g, c);
-    else
+    g->damage_left = between(g, 2, 6);
+    switch (started_now(g) ? WEIGHTED(g, 50, 12, 12, 8, 5, 8, 10, 4) : WEIGHTED(g, 40, 7, 7, 8, 5, 8, 8, 45)) {
+    case 0: damage_byte(g, c); break;
+    case 1: damage_to_waiting(g, c); break;
+    case 2: damage_line(g, c); break;
+    case 3: damage_fcb(g, c); break;
+    case 4: damage_sequence(g, c); break;
+    case 5: damage_legends(g, c); break;
+    case 6: damage_field(g, c); break;
+    default: damage_page(g, c); break;
+    }
+    if (g->undo_count < CHANGES_MOST && percent(g, 12))
         damage_byte(g, c);
-    if (g->undo_count == 1 && percent(g, 12))
-        damage_byte(g, c);
+    c->record_len = 0;
 }
 
 /* The damage ends: mostly the old bytes are put back, last first; else what came of it stays. */
@@ -809,7 +887,7 @@ static void tend_damage(struct generator *g, struct call *c)
 {
     if (g->undo_count > 0 && --g->damage_left == 0)
         end_damage(g, c);
-    else if (g->undo_count == 0 && g->made > 1 && permille(g, 14))
+    else if (g->undo_count == 0 && g->made > 1 && permille(g, started_now(g) ? 12 : 40))
         damage(g, c);
     for (size_t i = 0; i < g->undo_count; i++)
         c->damaged[g->undo[i].store] = true;
@@ -821,6 +899,7 @@ static void tend_damage(struct generator *g, struct call *c)
 static void clean(struct generator *g, struct call *c)
 {
     c->record_len = c->buffer_len = c->change_count = 0;
+    c->at_begin = percent(g, 60);
     c->null_if_empty = percent(g, 50);
     memcpy(c->store_len, store_size, sizeof store_size);
     memset(c->damaged, 0, sizeof c->damaged);

@@ -6,7 +6,7 @@
 #include <stddef.h>
 #include <stdint.h>
 
-enum { STORES = 4, RECORD_ROOM = 10240, REPLY_ROOM = 64, OUT_ROOM = 26928 + 64, CHANGES_MOST = 3 };
+enum { STORES = 4, RECORD_ROOM = 10240, REPLY_ROOM = 64, OUT_ROOM = 26928 + 64, CHANGES_MOST = 3, CHANGE_MOST = 256 };
 
 /* The lent stores, in the order of the interface. */
 enum store { STATE, PAGE, LEGENDS, TABLES };
@@ -16,14 +16,16 @@ extern const size_t store_size[STORES];
 
 enum call_kind { CALL_START, CALL_COMMAND, CALL_COMPOSE, CALL_RELEASE };
 
-/* A byte of a store that is to be set before the call. */
+/* Bytes of a store that are to be set before the call. */
 struct change {
     enum store store;
     size_t offset;
-    uint8_t value;
+    size_t count;
+    uint8_t bytes[CHANGE_MOST];
 };
 
-/* One call with all its numbers and lengths; `buffer_len` is that of the reply or the output. */
+/* One call with all its numbers and lengths; `buffer_len` is that of the reply or the output. A store of wrong size begins where the right one
+ * does, so that its contents are good, or else ends where it does. */
 struct call {
     enum call_kind kind;
     uint32_t form;
@@ -34,6 +36,7 @@ struct call {
     size_t record_len;
     size_t buffer_len;
     size_t store_len[STORES];
+    bool at_begin;
     bool null_if_empty;
     struct change changes[CHANGES_MOST];
     size_t change_count;

@@ -137,13 +137,13 @@ void counts_add(struct counts *n, const struct call *c, uint64_t answer, uint8_t
 
 /* ---- printing ---- */
 
-/* The table is gone through twice: with all its lines, and with those alone that are 0. */
+/* The table is gone through twice: with all its lines, and with those alone that are not as they must be. */
 struct table {
     bool only_missing;
     unsigned missing;
 };
 
-/* A count under one name, or under a name that ends in a number. */
+/* A count and its name. */
 struct row {
     const char *name;
     unsigned long count;
@@ -183,10 +183,10 @@ static void number_lines(struct table *t, const struct counts *n)
 static void number_11_line(struct table *t, const struct counts *n)
 {
     t->missing += n->number[11] != 0;
-    if (n->number[11] != 0)
-        printf("number 11 occurred, and cannot: %lu times\n", n->number[11]);
-    else if (!t->only_missing)
-        printf("%-64s %9s\n", "number 11: two pages completed", "0 (cannot occur)");
+    if (!t->only_missing)
+        printf("%-64s %9lu (cannot occur)\n", "number 11: two pages completed", n->number[11]);
+    else if (n->number[11] != 0)
+        printf("met, and cannot occur: number 11\n");
 }
 
 /* Causes 1 to 10 of a load check. */

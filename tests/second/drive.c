@@ -83,10 +83,12 @@ static uint8_t *last_bytes(const struct set *s, unsigned part, size_t length)
     return s->part[part].end - length;
 }
 
-/* What a call is handed: null for some empty buffers. */
+/* What a call is handed: null for some empty buffers; a store of wrong size from the begin of the right one, or up to its end. */
 static uint8_t *handed(const struct set *s, unsigned part, size_t length, const struct call *c)
 {
-    return length == 0 && c->null_if_empty ? NULL : last_bytes(s, part, length);
+    if (length == 0 && c->null_if_empty)
+        return NULL;
+    return last_bytes(s, part, part < STORES && c->at_begin ? store_size[part] : length);
 }
 
 static uint8_t *store(const struct set *s, enum store which)
@@ -221,14 +223,29 @@ static bool is_lent(const struct call *c, unsigned part)
     return part != OUT || c->kind == CALL_COMPOSE;
 }
 
-/* Both programs' buffers, each as a whole, with their canaries. */
+/* How much of a buffer's room the call is lent; a store of wrong size is compared as one of the right size. */
+static size_t lent_length(const struct call *c, unsigned part)
+{
+    if (part == RECORD)
+        return c->record_len;
+    return part < STORES ? store_size[part] : c->buffer_len;
+}
+
+/* One buffer of both programs: what was lent, the room before it, and the canaries. */
+static bool buffer_differs(const struct run *r, unsigned part, struct difference *d)
+{
+    const struct lent *a = &r->library->part[part], *b = &r->second.part[part];
+    size_t length = lent_length(&r->call, part);
+    return differs("bytes of", part, a->end - length, b->end - length, length, d)
+        || differs("room before", part, a->end - a->room, b->end - b->room, a->room - length, d) || canary_written(a, part, d);
+}
+
+/* All buffers that the call was lent. */
 static bool buffers_differ(const struct run *r, struct difference *d)
 {
-    for (unsigned i = 0; i < PARTS; i++) {
-        const struct lent *a = &r->library->part[i], *b = &r->second.part[i];
-        if (is_lent(&r->call, i) && (differs("bytes of", i, a->end - a->room, b->end - b->room, a->room, d) || canary_written(a, i, d)))
+    for (unsigned i = 0; i < PARTS; i++)
+        if (is_lent(&r->call, i) && buffer_differs(r, i, d))
             return true;
-    }
     return false;
 }
 
@@ -341,14 +358,21 @@ static bool agree(const struct run *r)
 
 /* ---- running ---- */
 
+/* Before a guard page there is no byte more: a store that is too long then ends where the right one does. */
+static void settle_begin(struct call *c, bool guarded)
+{
+    for (enum store i = STATE; i <= TABLES; i++)
+        c->at_begin = c->at_begin && !(guarded && c->store_len[i] > store_size[i]);
+}
+
 /* Sets the bytes that the generator asks for, in all stores alike. */
 static void apply_changes(struct run *r)
 {
     for (size_t i = 0; i < r->call.change_count; i++) {
         const struct change *x = &r->call.changes[i];
-        store(r->library, x->store)[x->offset] = x->value;
-        store(&r->second, x->store)[x->offset] = x->value;
-        r->before[x->store][x->offset] = x->value;
+        memcpy(store(r->library, x->store) + x->offset, x->bytes, x->count);
+        memcpy(store(&r->second, x->store) + x->offset, x->bytes, x->count);
+        memcpy(r->before[x->store] + x->offset, x->bytes, x->count);
     }
 }
 
@@ -371,7 +395,8 @@ static void remember(struct run *r)
 
 static void count_call(struct run *r)
 {
-    const uint8_t *const after[STORES] = { store(&r->second, STATE), store(&r->second, PAGE), store(&r->second, LEGENDS), store(&r->second, TABLES) };
+    const struct set *s = &r->second;
+    const uint8_t *const after[STORES] = { store(s, STATE), store(s, PAGE), store(s, LEGENDS), store(s, TABLES) };
     counts_add(&r->counts, &r->call, r->second_answer, r->before, after);
     r->calls_made++;
 }
@@ -390,6 +415,7 @@ static void show_progress(const struct run *r)
 static bool run_call(struct run *r)
 {
     generator_next(&r->generator, trestlepip_number(r->second_answer), &r->call);
+    settle_begin(&r->call, r->library == &r->guarded);
     apply_changes(r);
     lay_out(r->library, &r->call, (unsigned)r->calls_made);
     lay_out(&r->second, &r->call, (unsigned)r->calls_made);
@@ -430,7 +456,8 @@ static void lay_buffers(const struct set *s)
 static bool run_list(struct run *r, unsigned long long calls)
 {
     r->library = r->options.guard_all || r->list % 4 < 2 ? &r->guarded : &r->plain;
-    const uint8_t *const looked_at[STORES] = { store(&r->second, STATE), store(&r->second, PAGE), store(&r->second, LEGENDS), store(&r->second, TABLES) };
+    const struct set *s = &r->second;
+    const uint8_t *const looked_at[STORES] = { store(s, STATE), store(s, PAGE), store(s, LEGENDS), store(s, TABLES) };
     generator_begin(&r->generator, r->options.seed, r->list, looked_at);
     lay_stores(r);
     lay_buffers(r->library);
