@@ -32,7 +32,8 @@ install_packages() { # PACKAGE...
     command -v apt-get >/dev/null || stop "$how"
     if [ "$(id -u)" -eq 0 ]; then as=''; elif sudo -n true 2>/dev/null; then as='sudo -n'; else stop "$how"; fi
     echo "${0##*/}: installing $*" >&2
-    { $as apt-get -qq update && $as env DEBIAN_FRONTEND=noninteractive apt-get -qq -y install "$@"; } >/dev/null || stop "$how"
+    $as apt-get -qq update >/dev/null || :
+    $as env DEBIAN_FRONTEND=noninteractive apt-get -qq -y install "$@" >/dev/null || stop "$how"
 }
 
 # Sees to it that each of these commands is there.
