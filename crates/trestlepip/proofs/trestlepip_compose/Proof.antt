@@ -29,4 +29,6 @@ trestlepip-compose-spec =
     (λ c κs. search needs)
     (λ c κs. search needs)
     (λ c. search needs)
-    (λ c. let s = c .before .before .before in let d = s .before .before in read-so _ _ _ (was-read (d .before)) (d .decode .ensures) (s .compose .ensures) (c .pack .ensures) (sym (ap bytesOf (compose-printer _ _ (s .compose .ensures) ∙ d .decode .ensures) ∙ handed-back (d .before)))))
+    (λ c. let s = c .before .before .before in let d = s .before .before in
+    read-so _ _ _ (was-read (d .before)) (d .decode .ensures) (s .compose .ensures) (c .pack .ensures)
+    (sym (ap bytesOf (compose-printer _ _ (s .compose .ensures) ∙ d .decode .ensures) ∙ handed-back (d .before)))))

@@ -29,4 +29,5 @@ trestlepip-release-spec =
     (λ c. search needs)
     (λ c. search needs)
     (λ c. search needs)
-    (λ c. let s = c .before .before .before .before .before .before .before .before .before .before .before in let d = s .before .before .before .before in read-so _ _ _ (was-read (d .before .before)) (d .decode .ensures) (s .release .ensures) (c .pack .ensures) (c .before .before .before .encode .ensures)))
+    (λ c. let s = c .before .before .before .before .before .before .before .before .before .before .before in let d = s .before .before .before .before in
+    read-so _ _ _ (was-read (d .before .before)) (d .decode .ensures) (s .release .ensures) (c .pack .ensures) (c .before .before .before .encode .ensures)))

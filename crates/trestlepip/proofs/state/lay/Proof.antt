@@ -39,4 +39,6 @@ lay-spec =
     (λ c. search needs)
     (λ c κs. search needs)
     (λ c. search needs)
-    (λ c. let x = c .before .before .before .before .before .before .before .before .before .before .before .before .before .before .before .before in let a = x .args in rw (c .before .before .before .before .before .before .before .before .before .before .before .before .copy-all .ensures, c .before .before .before .before .before .before .before .copy-all2 .ensures, c .before .before .copy-all3 .ensures) (laid (a .s .now) (a .small .now) (a .pairs .now) (a .fcb .now) (x .pre) (omega (arith, x)) (omega (arith, x)))))
+    (λ c. let third = c .before .before in let second = third .before .before .before .before .before in let first = second .before .before .before .before .before in let x = first .before .before .before .before in
+    rw (first .copy-all .ensures, second .copy-all2 .ensures, third .copy-all3 .ensures)
+    (laid (x .args .s .now) (x .args .small .now) (x .args .pairs .now) (x .args .fcb .now) (x .pre) (omega (arith, x)) (omega (arith, x)))))
