@@ -103,4 +103,5 @@ MORNING="host/morning.c host/sheets.c $HOST"
 REFUSALS="host/test_refusals.c $HOST"
 SECOND='tests/second/second.c tests/second/state.c tests/second/form.c tests/second/line.c tests/second/copies.c'
 ROWS=tests/second/rows.c
-DRIVE='tests/second/drive.c tests/second/calls.c tests/second/counts.c'
+GENERATOR='tests/second/calls.c tests/second/chance.c tests/second/records.c tests/second/damage.c'
+DRIVE="tests/second/drive.c tests/second/counts.c $GENERATOR"

@@ -6,13 +6,16 @@
 #include <stddef.h>
 #include <stdint.h>
 
-enum { STORES = 4, RECORD_ROOM = 10240, REPLY_ROOM = 64, OUT_ROOM = 26928 + 64, CHANGES_MOST = 3, CHANGE_MOST = 256 };
+enum { STORES = 4, FORMS = 11, RECORD_ROOM = 10240, REPLY_ROOM = 64, OUT_ROOM = 26928 + 64, CHANGES_MOST = 3, CHANGE_MOST = 256 };
 
 /* The lent stores, in the order of the interface. */
 enum store { STATE, PAGE, LEGENDS, TABLES };
 
 /* The right size of each store. */
 extern const size_t store_size[STORES];
+
+/* The form lengths that Start takes. */
+extern const unsigned forms[FORMS];
 
 enum call_kind { CALL_START, CALL_COMMAND, CALL_COMPOSE, CALL_RELEASE };
 

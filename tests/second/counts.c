@@ -10,8 +10,6 @@
 
 enum { AT_BLOCK = 6, AT_RESET_DUE = 18, AT_SENSE_0 = 19, AT_SENSE_1 = 20 };
 
-static const unsigned form_lengths[FORMS] = { 72, 84, 96, 132, 144, 168, 192, 204, 240, 264, 288 };
-
 /* ---- adding ---- */
 
 /* Sense byte 1 of a command that Block was on for, had it been off: what Block hid is seen only so. */
@@ -96,7 +94,7 @@ static void add_start(struct counts *n, const struct call *c, uint64_t answer)
 {
     bool taken = trestlepip_number(answer) == 0;
     for (unsigned i = 0; i < FORMS; i++)
-        n->form[i] += taken && c->form == form_lengths[i];
+        n->form[i] += taken && c->form == forms[i];
     n->start_refused_sized += !taken && c->store_len[STATE] == STATE_BYTES;
 }
 
@@ -247,7 +245,7 @@ static void form_lines(struct table *t, const struct counts *n)
 {
     char name[32];
     for (unsigned i = 0; i < FORMS; i++) {
-        snprintf(name, sizeof name, "Start with form length %u", form_lengths[i]);
+        snprintf(name, sizeof name, "Start with form length %u", forms[i]);
         line(t, name, n->form[i]);
     }
 }

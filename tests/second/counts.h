@@ -4,7 +4,7 @@
 
 #include "calls.h"
 
-enum { NUMBERS = 12, CAUSES = 11, FORMS = 11 };
+enum { NUMBERS = 12, CAUSES = 11 };
 
 struct counts {
     unsigned long number[NUMBERS];

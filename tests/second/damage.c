@@ -1,0 +1,155 @@
+/* Damage: bytes of the stores set for some calls, and put back. */
+#include "making.h"
+
+#include <string.h>
+
+/* A byte that differs from the old one by little, or not by little. */
+static uint8_t other_value(struct generator *g, uint8_t old)
+{
+    switch (below(g, 6)) {
+    case 0: return (uint8_t)(old + 1);
+    case 1: return (uint8_t)(old - 1);
+    case 2: return (uint8_t)(old ^ (1u << below(g, 8)));
+    case 3: return 0;
+    case 4: return 0xFF;
+    default: return byte(g);
+    }
+}
+
+/* Where a store is damaged: in the state and the legends mostly where they are in use. */
+static size_t damage_offset(struct generator *g, enum store store)
+{
+    if (store == STATE)
+        return percent(g, 65) ? below(g, AT_SEQUENCE) : below(g, store_size[STATE]);
+    if (store == LEGENDS && percent(g, 70))
+        return percent(g, 80) ? below(g, 40) : store_size[LEGENDS] - 1 - below(g, 8);
+    return below(g, store_size[store]);
+}
+
+/* Bytes are to be set before the call; the old ones are kept to be put back. */
+static void set_bytes(struct generator *g, struct call *c, enum store store, size_t offset, const uint8_t *bytes, size_t count)
+{
+    struct change *undo = &g->undo[g->undo_count++], *change = &c->changes[c->change_count++];
+    *undo = (struct change){ .store = store, .offset = offset, .count = count };
+    *change = *undo;
+    memcpy(undo->bytes, g->stores[store] + offset, count);
+    memcpy(change->bytes, bytes, count);
+}
+
+static void set_byte(struct generator *g, struct call *c, enum store store, size_t offset, unsigned value)
+{
+    set_bytes(g, c, store, offset, (const uint8_t[]){ (uint8_t)value }, 1);
+}
+
+/* Any byte of any store. */
+static void damage_byte(struct generator *g, struct call *c)
+{
+    enum store store = (enum store)WEIGHTED(g, 60, 10, 22, 8);
+    size_t offset = damage_offset(g, store);
+    set_byte(g, c, store, offset, other_value(g, g->stores[store][offset]));
+}
+
+/* One of the state's fields of a byte, from the pitches to the reset due, set to a value next to its range. */
+static void damage_field(struct generator *g, struct call *c)
+{
+    static const uint8_t outside[] = { 0, 1, 11, 16, 2, 145, 0, 2, 2, 2, 4, 18, 0, 133, 2, 2, 2 };
+    unsigned field = below(g, COUNT(outside));
+    set_byte(g, c, STATE, AT_PITCH + field, outside[field]);
+}
+
+/* A page that waits though none was completed, in a state that is mostly a printer's otherwise. */
+static void damage_to_waiting(struct generator *g, struct call *c)
+{
+    set_byte(g, c, STATE, AT_WRITTEN, percent(g, 15));
+    set_byte(g, c, STATE, AT_WAITING, 1);
+    set_byte(g, c, STATE, AT_RESET_DUE, below(g, 2));
+}
+
+/* Another line of the form, often the last or the one after it. */
+static void damage_line(struct generator *g, struct call *c)
+{
+    unsigned last = lines_now(g);
+    switch (below(g, 4)) {
+    case 0: set_byte(g, c, STATE, AT_LINE, last); break;
+    case 1: set_byte(g, c, STATE, AT_LINE, last + 1); break;
+    case 2: set_byte(g, c, STATE, AT_LINE, between(g, 1, last)); break;
+    default: set_byte(g, c, STATE, AT_LINE, 0); break;
+    }
+}
+
+/* A whole FCB in the state, taken by its load or not; the call's record is not made yet and serves to make it. */
+static void damage_fcb(struct generator *g, struct call *c)
+{
+    memset(c->record, 0, CHANGE_MOST);
+    fcb_record(g, c);
+    size_t count = c->record_len < 144 ? c->record_len : 144;
+    memset(c->record + count, 0, 144 - count);
+    set_byte(g, c, STATE, AT_FCB_COUNT, (unsigned)count);
+    set_bytes(g, c, STATE, AT_FCB, c->record, 144);
+}
+
+/* A whole overlay sequence in the state likewise. */
+static void damage_sequence(struct generator *g, struct call *c)
+{
+    sequence_record(g, c);
+    size_t count = c->record_len < 16 ? c->record_len : 16;
+    memset(c->record + count, 0, 16 - count);
+    set_byte(g, c, STATE, AT_SEQUENCE_COUNT, (unsigned)count);
+    set_bytes(g, c, STATE, AT_SEQUENCE, c->record, 16);
+}
+
+/* Legends over the front of the store, taken by their load or not. */
+static void damage_legends(struct generator *g, struct call *c)
+{
+    legends_record(g, c);
+    set_bytes(g, c, LEGENDS, 0, c->record, c->record_len < CHANGE_MOST ? c->record_len : CHANGE_MOST);
+}
+
+/* Cells on the page: no call cares before a write, and none but Start and Release may clean them. */
+static void damage_page(struct generator *g, struct call *c)
+{
+    uint8_t cells[8];
+    generator_fill(g, cells, sizeof cells);
+    set_bytes(g, c, PAGE, below(g, store_size[PAGE] - sizeof cells), cells, sizeof cells);
+}
+
+/* The stores are damaged for this call and some after it. */
+static void damage(struct generator *g, struct call *c)
+{
+    g->damage_left = between(g, 2, 6);
+    switch (started_now(g) ? WEIGHTED(g, 50, 12, 12, 8, 5, 8, 10, 4) : WEIGHTED(g, 40, 7, 7, 8, 5, 8, 8, 45)) {
+    case 0: damage_byte(g, c); break;
+    case 1: damage_to_waiting(g, c); break;
+    case 2: damage_line(g, c); break;
+    case 3: damage_fcb(g, c); break;
+    case 4: damage_sequence(g, c); break;
+    case 5: damage_legends(g, c); break;
+    case 6: damage_field(g, c); break;
+    default: damage_page(g, c); break;
+    }
+    if (g->undo_count < CHANGES_MOST && percent(g, 12))
+        damage_byte(g, c);
+    c->record_len = 0;
+}
+
+/* The damage ends: mostly the old bytes are put back, last first; else what came of it stays. */
+static void end_damage(struct generator *g, struct call *c)
+{
+    bool put_back = percent(g, 80);
+    while (g->undo_count > 0) {
+        g->undo_count--;
+        if (put_back)
+            c->changes[c->change_count++] = g->undo[g->undo_count];
+    }
+}
+
+/* Damage begins, goes on or ends before this call. */
+void tend_damage(struct generator *g, struct call *c)
+{
+    if (g->undo_count > 0 && --g->damage_left == 0)
+        end_damage(g, c);
+    else if (g->undo_count == 0 && g->made > 1 && permille(g, started_now(g) ? 12 : 40))
+        damage(g, c);
+    for (size_t i = 0; i < g->undo_count; i++)
+        c->damaged[g->undo[i].store] = true;
+}

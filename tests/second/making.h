@@ -1,0 +1,87 @@
+/* What the parts of the generator share: chance.c has its random numbers, records.c looks at the state and makes records, damage.c damages stores. */
+#ifndef MAKING_H
+#define MAKING_H
+
+#include "calls.h"
+
+enum { LINE_CELLS = 204, WRITE_MOST = 204, LOAD_MOST = 8192, SLOT_BYTES = 256, REPLY_BYTES = 24, HEAD = 6, SEGMENT_LEAST = 7 };
+
+/* Places in the state that the generator looks at; docs/STATE.md. */
+enum {
+    AT_FORM = 0, AT_PITCH = 2, AT_FCB_COUNT = 7, AT_LOADED = 8, AT_SEQUENCE_COUNT = 13, AT_NUMBER = 14, AT_LINE = 15, AT_WRITTEN = 16,
+    AT_WAITING = 17, AT_RESET_DUE = 18, AT_SEQUENCE = 24, AT_FCB = 40
+};
+
+#define COUNT(array) (sizeof(array) / sizeof((array)[0]))
+
+/* Random numbers. Never two of one expression without an order, so that a seed gives the same calls everywhere. */
+
+/* splitmix64: spreads a seed over the words of the generator. */
+uint64_t splitmix(uint64_t *x);
+
+/* xoshiro256**. */
+uint64_t next(struct generator *g);
+
+/* A number from 0 to below the bound; a bound of 0 gives 0. */
+unsigned below(struct generator *g, size_t bound);
+
+/* A number from low to high, both among them. */
+unsigned between(struct generator *g, unsigned low, unsigned high);
+
+/* Whether a chance of so many in a hundred, or in a thousand, comes true. */
+bool percent(struct generator *g, unsigned chance);
+bool permille(struct generator *g, unsigned chance);
+
+/* Any byte. */
+uint8_t byte(struct generator *g);
+
+/* The place of one weight among some, each as likely as it is heavy. */
+unsigned weighted(struct generator *g, const unsigned *weights, size_t count);
+
+#define WEIGHTED(g, ...) weighted(g, (const unsigned[]){ __VA_ARGS__ }, COUNT(((const unsigned[]){ __VA_ARGS__ })))
+
+/* What the state shows: its bytes, the form, and whether a page is started. */
+const uint8_t *state_of(const struct generator *g);
+unsigned form_now(const struct generator *g);
+bool started_now(const struct generator *g);
+
+/* The printable lines, at least 1 and at most 132 for any bytes. */
+unsigned lines_now(const struct generator *g);
+
+/* The copies of the sequence, at least 1 for any bytes. */
+unsigned copies_now(const struct generator *g);
+
+/* A channel that some line of the FCB has, or any if the line looked at has none. */
+unsigned channel_near(struct generator *g);
+
+/* A slot that is loaded, mostly one of the higher. */
+unsigned slot_near(struct generator *g);
+
+/* A record of this length with bytes that no command reads in order. */
+void any_record(struct generator *g, struct call *c, size_t length);
+
+/* A length that a command which ignores its record must not mind. */
+size_t ignored_length(struct generator *g);
+
+/* The record of a write: mostly 1 to 204 bytes. */
+void write_record(struct generator *g, struct call *c);
+
+/* The record of an FCB load. */
+void fcb_record(struct generator *g, struct call *c);
+
+/* The record of a translate load. */
+void table_record(struct generator *g, struct call *c);
+
+/* The record of an overlay sequence load. */
+void sequence_record(struct generator *g, struct call *c);
+
+/* The record of a copy number load. */
+void number_record(struct generator *g, struct call *c);
+
+/* The record of a copy modification load. */
+void legends_record(struct generator *g, struct call *c);
+
+/* Damage begins, goes on or ends before this call. */
+void tend_damage(struct generator *g, struct call *c);
+
+#endif
