@@ -9,12 +9,11 @@ use numbers::Sense;
 use printer::Printer;
 ghost use mathlib.Core.Path.{_≡_};
 ghost use Prim.Native.Nat.{_+_, _*_};
-ghost use mathlib.Core.Bool.{Bool};
-ghost use mathlib.Core.List.{_++_, [], _∷_};
+ghost use mathlib.Core.List.{_++_};
 ghost use lib.ListN.{length};
 ghost use lib.Dec.{leb};
 ghost use Rattle.seq.specs.Words.{all};
-ghost use Rattle.trestlepip.specs.State.{smallBytes, bytesOf, byteAt, flagAt, printerWith, printerOf, flagPlaces, readable};
+ghost use Rattle.trestlepip.specs.State.{smallBytes, bytesOf, byteAt, printerWith, printerOf, flagPlaces, readable};
 
 pub(crate) const STATE_BYTES: usize = 184;
 
