@@ -9,6 +9,7 @@ x86_64 | amd64) CC=gcc CXX=g++ LINK='' RUN='' ;;
 esac
 WARNINGS='-Wall -Wextra -Wpedantic -Wconversion -Wshadow -Werror'
 LIBRARY=target/staticlib/libtrestlepip.a
+TRAPS=''
 
 stop() { # WORDS...
     echo "${0##*/}: $*" >&2
@@ -87,14 +88,15 @@ build_library() {
     [ "$status" -eq 0 ] || { cat target/c/rt.out >&2; stop 'rt refuses the library'; }
 }
 
-# Compiles and links target/c/NAME from these sources and archives. The help card's lines come to C by a header made here.
+# Compiles and links target/c/NAME from these sources and archives; TRAPS are options of the tests. The help card's lines come to C by a header
+# made here.
 build() { # NAME SOURCE...
     program=target/c/$1
     shift
     mkdir -p target/c
     awk -f host/help-card.awk docs/HELP-CARD.md >target/c/help_card.h
     # shellcheck disable=SC2086
-    "$CC" -std=c11 -O2 $WARNINGS -Wstrict-prototypes -Wmissing-prototypes $LINK -Iinclude -Itarget/c -o "$program" "$@"
+    "$CC" -std=c11 -O2 $WARNINGS -Wstrict-prototypes -Wmissing-prototypes $TRAPS $LINK -Iinclude -Itarget/c -o "$program" "$@"
 }
 
 # What each program is made of, but for the library and the second program.
