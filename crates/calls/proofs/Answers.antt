@@ -13,9 +13,9 @@ use Rattle.numbers.specs.declared.Sense.{Sense}
 use Rattle.numbers.specs.declared.Refusal.the-variants.{Accepted, NotListed, BadRecord, PageWaiting, PageStarted, TooShort, BadStore, TwoPages}
 use Rattle.numbers.specs.Numbers.{SenseStep, keep, rowOf, numberOf, isAccepted}
 use Rattle.numbers.proofs.Laws.{accepted-is, isAnew, number-not, number-check, number-none}
-use Rattle.form.specs.declared.Moved.{Moved}
-use Rattle.form.specs.Movement.{still, toTop}
-use Rattle.form.proofs.MovementLaws.{one-page}
+use Rattle.movement.specs.declared.Moved.{Moved}
+use Rattle.movement.specs.Movement.{still, toTop}
+use Rattle.movement.proofs.MovementLaws.{one-page}
 use Rattle.line.specs.declared.Causes.{Causes}
 use Rattle.line.specs.Line.{noCauses}
 use Rattle.calls.specs.declared.Sheet.{Sheet}

@@ -8,10 +8,10 @@ use lib.Dec.{eqb}
 use borrow.Author.Tests.{eqb-true, not-false}
 use Rattle.seq.proofs.Laws.{or-left, cond-has}
 use Rattle.numbers.specs.Numbers.{isAccepted}
-use Rattle.form.specs.declared.Motion.{Motion}
-use Rattle.form.specs.declared.Moved.{Moved}
-use Rattle.form.specs.Movement.{toTop}
-use Rattle.form.proofs.MovementLaws.{down, over, Went, stays, goes, went}
+use Rattle.movement.specs.declared.Motion.{Motion}
+use Rattle.movement.specs.declared.Moved.{Moved}
+use Rattle.movement.specs.Movement.{toTop}
+use Rattle.movement.proofs.MovementLaws.{down, over, Went, stays, goes, went}
 use Rattle.calls.specs.declared.Sheet.{Sheet}
 use Rattle.calls.specs.declared.Load.{Load}
 use Rattle.calls.specs.declared.Load.the-variants.{Fcb, TranslateTable, CopyModification, OverlaySequence, CopyNumber}

@@ -15,20 +15,20 @@ use Rattle.numbers.specs.declared.Checked.the-variants.{Sound}
 use Rattle.numbers.specs.declared.Refusal.the-variants.{NoPage, BadIndex, TooShort, BadStore}
 use Rattle.numbers.specs.Numbers.{rowOf, numberOf, isAccepted}
 use Rattle.numbers.proofs.Laws.{number-not, number-none}
-use Rattle.form.specs.declared.Motion.{Motion}
-use Rattle.form.specs.declared.Moved.{Moved}
+use Rattle.movement.specs.declared.Motion.{Motion}
+use Rattle.movement.specs.declared.Moved.{Moved}
 use Rattle.form.specs.Form.{fcbCheck}
-use Rattle.form.specs.Movement.{toTop}
+use Rattle.movement.specs.Movement.{toTop}
 use Rattle.form.proofs.FormLaws.{form-listed, few-lines}
-use Rattle.form.proofs.MovementLaws.{down, over, Went, stays, goes, went}
+use Rattle.movement.proofs.MovementLaws.{down, over, Went, stays, goes, went}
 use Rattle.line.specs.declared.Slots.{Slots}
 use Rattle.line.specs.Line.{slotSize, tableSize, pageSize, serving, translated, slotsInRange}
 use Rattle.line.proofs.LineLaws.{length-translated, length-lineCells, length-pageWritten, length-putSlot}
 use Rattle.copies.specs.declared.Copies.{Copies}
 use Rattle.copies.specs.Copies.{sequenceCheck, numberCheck, tableCheck, withSequence, withReference, copiesInRange}
-use Rattle.copies.specs.Legends.{legendCheck}
+use Rattle.legends.specs.Legends.{legendCheck}
 use Rattle.copies.proofs.CopiesLaws.{table-long, sequence-fits, number-some}
-use Rattle.copies.proofs.LegendLaws.{stored-size, stored-ok}
+use Rattle.legends.proofs.LegendLaws.{stored-size, stored-ok}
 use Rattle.calls.specs.declared.Sheet.{Sheet}
 use Rattle.calls.specs.declared.Load.{Load}
 use Rattle.calls.specs.declared.Load.the-variants.{Fcb, TranslateTable, CopyModification, OverlaySequence, CopyNumber}

@@ -10,7 +10,7 @@ use Rattle.numbers.specs.Numbers.{rowOf, numberOf, isSound}
 use Rattle.form.specs.Form.{formLengths, pitchesListed, pitchesOk, formOk, unitsOf, runsFrom, runs, unitsTotal, linesWhere, printable, edges, fcbCheck, layoutCheck, layoutOf, startFcb, formsOf, formsInRange}
 use Rattle.line.specs.Line.{startTable, startTables, startSlots, slotsInRange}
 use Rattle.copies.specs.Copies.{pairsOf, copiesOf, sequenceCheck, startCopies, copiesInRange}
-use Rattle.copies.specs.Legends.{badHead, cut, segments, legendCheck, storedSegments, legendsOk, noLegends}
+use Rattle.legends.specs.Legends.{badHead, cut, segments, legendCheck, storedSegments, legendsOk, noLegends}
 use Rattle.calls.specs.Core.{Stores, Core, sizesOk, withState, withPage, withLegends, withTables, withForms, withSlots, withCopies, withSheet, linesNow}
 use Rattle.calls.specs.Commands.{codes, lookUp, decode, isUnlisted}
 use Rattle.calls.specs.Contents.{lineOk, rangesOk, dueOk, markOk, clauses, coreOk}

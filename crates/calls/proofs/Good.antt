@@ -18,8 +18,8 @@ use Rattle.line.specs.Line.{pageSize, tableSize, startSlots, slotsInRange}
 use Rattle.line.proofs.LineLaws.{length-startTables}
 use Rattle.copies.specs.declared.Copies.{Copies}
 use Rattle.copies.specs.Copies.{pairsOf, copiesOf, sequenceCheck, sequenceNow, startCopies, copiesInRange}
-use Rattle.copies.specs.Legends.{legendSize, legendsOk, noLegends}
-use Rattle.copies.proofs.LegendLaws.{none-ok}
+use Rattle.legends.specs.Legends.{legendSize, legendsOk, noLegends}
+use Rattle.legends.proofs.LegendLaws.{none-ok}
 use Rattle.calls.specs.declared.Fixed.{Fixed}
 use Rattle.calls.specs.declared.Sheet.{Sheet}
 use Rattle.calls.specs.Core.{Stores, Core, sizesOk, linesNow, P}

@@ -17,10 +17,10 @@ use Rattle.calls.specs.Calls.{Call, command, compose, release, Outcome}
 use Rattle.seq.specs.Words.{joined, zipped, when, firstOr, every, padded}
 use Rattle.numbers.specs.Numbers.{causeOf, rowOf, isAccepted, checked, isSound}
 use Rattle.form.specs.Form.{formLengths, pitchesListed, pitchesOk, formOk, unitsOf, runsFrom, runs, unitsTotal, linesWhere, printable, edges, fcbCheck, layoutCheck, layoutOf, channelAt, startFcb, formsOf, formsInRange}
-use Rattle.form.specs.Movement.{entered, round, upToFirst, spaced, skipped, moved, still, toTop}
+use Rattle.movement.specs.Movement.{entered, round, upToFirst, spaced, skipped, moved, still, toTop}
 use Rattle.line.specs.Line.{slotAt, putSlot, isLoaded, serving, unprintable, standIn, cellOf, translated, anyUnprintable, lineCells, mergeRules, mergeCell, collides, mergeLine, anyCollides, lineAt, putLine, pageWritten, noCauses, lineCauses, orUnmatched, causeByte, startTable, startTables, startSlots, slotsInRange}
 use Rattle.copies.specs.Copies.{tableCheck, pairsOf, copiesOf, sequenceCheck, markIn, numberCheck, withSequence, withReference, startCopies, copyCount, copyNumber, copyMark, copiesInRange}
-use Rattle.copies.specs.Legends.{segmentOf, badHead, cut, segments, legendCheck, storedLegends, legendText, storedSegments, legendsOk, noLegends, covers, shown, copyFrom, composed}
+use Rattle.legends.specs.Legends.{segmentOf, badHead, cut, segments, legendCheck, storedLegends, legendText, storedSegments, legendsOk, noLegends, covers, shown, copyFrom, composed}
 use Rattle.calls.specs.Core.{sizesOk, linesNow, started}
 use Rattle.calls.specs.Commands.{codes, lookUp, decode, controlTraits, traitsOf}
 use Rattle.calls.specs.Contents.{lineOk, rangesOk, dueOk, markOk, coreOk}

@@ -13,11 +13,11 @@ use Rattle.numbers.specs.declared.Checked.the-variants.{Sound}
 use Rattle.numbers.specs.declared.Refusal.{Refusal}
 use Rattle.numbers.specs.declared.Refusal.the-variants.{Accepted, NotListed, BadRecord, PageWaiting, PageStarted, NoPage, BadIndex, TooShort, BadStore, TwoPages}
 use Rattle.numbers.specs.Numbers.{keep, senseAfter, isAccepted, only, checked}
-use Rattle.form.specs.declared.Moved.{Moved}
-use Rattle.form.specs.Movement.{toTop}
+use Rattle.movement.specs.declared.Moved.{Moved}
+use Rattle.movement.specs.Movement.{toTop}
 use Rattle.line.specs.Line.{lineWidth, lineBytes}
 use Rattle.copies.specs.Copies.{copyCount, copyNumber, copyMark}
-use Rattle.copies.specs.Legends.{legendSize, composed}
+use Rattle.legends.specs.Legends.{legendSize, composed}
 use Rattle.calls.specs.declared.Command.{Command}
 use Rattle.calls.specs.declared.Command.the-variants.{Write, Move, Controls, Loads, Unlisted}
 use Rattle.calls.specs.Core.{Core, World, withState, withPage, withSheet, P, started}

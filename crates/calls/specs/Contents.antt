@@ -9,7 +9,7 @@ use Rattle.numbers.specs.Numbers.{isSound}
 use Rattle.form.specs.Form.{formOk, fcbCheck, fcbNow, formsInRange}
 use Rattle.line.specs.Line.{slotsInRange}
 use Rattle.copies.specs.Copies.{sequenceCheck, sequenceNow, copiesInRange}
-use Rattle.copies.specs.Legends.{legendsOk}
+use Rattle.legends.specs.Legends.{legendsOk}
 use Rattle.calls.specs.declared.Sheet.{Sheet}
 use Rattle.calls.specs.declared.State.{State}
 use Rattle.calls.specs.Core.{Core, sizesOk, P}

@@ -11,7 +11,7 @@ use Rattle.form.specs.Form.{fcbNow, printable}
 use Rattle.line.specs.declared.Slots.{Slots}
 use Rattle.line.specs.Line.{pageSize, tableSize}
 use Rattle.copies.specs.declared.Copies.{Copies}
-use Rattle.copies.specs.Legends.{legendSize}
+use Rattle.legends.specs.Legends.{legendSize}
 use Rattle.calls.specs.declared.Sheet.{Sheet}
 use Rattle.calls.specs.declared.State.{State}
 

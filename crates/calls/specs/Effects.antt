@@ -11,15 +11,15 @@ use Rattle.numbers.specs.declared.Checked.{Checked}
 use Rattle.numbers.specs.declared.Refusal.{Refusal}
 use Rattle.numbers.specs.declared.Refusal.the-variants.{Accepted, NotListed}
 use Rattle.numbers.specs.Numbers.{SenseStep, keep, anew, sense3, noSense, rowOf, only}
-use Rattle.form.specs.declared.Motion.{Motion}
-use Rattle.form.specs.declared.Moved.{Moved}
+use Rattle.movement.specs.declared.Motion.{Motion}
+use Rattle.movement.specs.declared.Moved.{Moved}
 use Rattle.form.specs.Form.{fcbCheck, formsOf}
-use Rattle.form.specs.Movement.{moved, still, toTop}
+use Rattle.movement.specs.Movement.{moved, still, toTop}
 use Rattle.line.specs.declared.Slots.{Slots}
 use Rattle.line.specs.declared.Causes.{Causes}
 use Rattle.line.specs.Line.{slotSize, putSlot, serving, translated, lineCells, lineAt, pageWritten, noCauses, lineCauses, orUnmatched, causeByte}
 use Rattle.copies.specs.Copies.{tableCheck, sequenceCheck, numberCheck, withSequence, withReference}
-use Rattle.copies.specs.Legends.{legendCheck, storedLegends, legendText}
+use Rattle.legends.specs.Legends.{legendCheck, storedLegends, legendText}
 use Rattle.calls.specs.declared.Sheet.{Sheet}
 use Rattle.calls.specs.declared.State.{State}
 use Rattle.calls.specs.declared.Load.{Load}

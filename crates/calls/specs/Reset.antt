@@ -7,7 +7,7 @@ use Rattle.numbers.specs.declared.Sense.{Sense}
 use Rattle.form.specs.Form.{startFcb, formsOf}
 use Rattle.line.specs.Line.{pageSize, startSlots, startTables}
 use Rattle.copies.specs.Copies.{startCopies}
-use Rattle.copies.specs.Legends.{noLegends}
+use Rattle.legends.specs.Legends.{noLegends}
 use Rattle.calls.specs.declared.Fixed.{Fixed}
 use Rattle.calls.specs.declared.Sheet.{Sheet}
 use Rattle.calls.specs.declared.State.{State}

@@ -1,7 +1,7 @@
 // Document 01, "Calls", "Commands", "Reset and sense": what a printer holds, and what it is told to do.
 use copies::Copies;
 use form::Forms;
-use form::Motion;
+use movement::Motion;
 use line::Slots;
 
 // What Start fixes: the form length in 24ths of an inch, and the pitch of each module, 0 if it is not fitted.

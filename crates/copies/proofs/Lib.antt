@@ -1,5 +1,1 @@
 pub mod CopiesLaws
-pub mod SegmentLaws
-pub mod LegendLaws
-pub mod StoredLaws
-pub mod ComposeLaws

@@ -1,11 +1,172 @@
-// Document 01, "Copies and legends".
-pub mod compose;
-pub mod legends;
-pub mod sequence;
+// Document 01, "Copies and legends": the loads of translate table, overlay sequence and copy number, and the copies that the kept ones ask for.
+use numbers::Cause;
+use numbers::Checked;
+ghost use mathlib.Core.Path.{_≡_};
+ghost use Prim.Native.Nat.{_≤_};
+ghost use lib.ListN.{length};
+ghost use Rattle.seq.specs.Words.{any};
+ghost use Rattle.numbers.specs.Numbers.{isSound};
+ghost use Rattle.copies.specs.Copies.{tableCheck, pairsOf, copiesOf, wholePairs, badPair, sequenceCheck, markIn, numberCheck};
+ghost use Rattle.copies.specs.Copies.{pairSize, sequenceNow, withSequence, withReference, copyCount, copyNumber, copyMark, copiesInRange};
 
 // The overlay sequence, pairs of copies and mark with 00 after them, its count in bytes, and the copy number reference.
 pub struct Copies {
     pub pairs: [u8; 16],
     pub count: u8,
     pub reference: u8,
+}
+
+pub fn table_check(sent: &[u8]) -> Checked
+    ensures { λ r. ⌜ r ≡ tableCheck (now (sent .entry)) ⌝ }
+{
+    if sent.len() < 256 {
+        return Checked::Faulty(Cause::TableShort);
+    }
+    Checked::Sound
+}
+
+fn whole_pairs(sent: &[u8]) -> bool
+    ensures { λ r. ⌜ r ≡ wholePairs (now (sent .entry)) ⌝ }
+{
+    let n = sent.len();
+    (n % 2 == 0) & (1 <= n / 2) & (n / 2 <= 8)
+}
+
+// A byte as a number of copies.
+fn count_of(b: u8) -> u16
+    ensures { λ r. ⌜ (r ≡ b) × (r ≤ 255) ⌝ }
+{
+    b as u16
+}
+
+// An odd last byte is no pair, here and below.
+fn any_bad_pair(pairs: &[u8]) -> bool
+    ensures { λ r. ⌜ r ≡ any badPair (pairsOf (now (pairs .entry))) ⌝ }
+{
+    let n = pairs.len();
+    let mut bad = false;
+    let mut i = 0;
+    while 2 <= n - i {
+        bad = bad | ((pairs[i] == 0) | (1 < pairs[i + 1]));
+        i += 2;
+    }
+    bad
+}
+
+fn total_copies(pairs: &[u8]) -> u16
+    requires { ⌜ length (now pairs) ≤ pairSize ⌝ }
+    ensures { λ r. ⌜ r ≡ copiesOf (now (pairs .entry)) ⌝ }
+{
+    let n = pairs.len();
+    let mut copies: u16 = 0;
+    let mut i = 0;
+    while 2 <= n - i {
+        copies += count_of(pairs[i]);
+        i += 2;
+    }
+    copies
+}
+
+// The mark of the pair that copy k falls to, `left` counting the copies from the pair at i on.
+fn mark_in(k: u16, pairs: &[u8]) -> u8
+    ensures { λ r. ⌜ r ≡ markIn k (pairsOf (now (pairs .entry))) ⌝ }
+{
+    let n = pairs.len();
+    let mut left = k;
+    let mut i = 0;
+    while 2 <= n - i {
+        let copies = count_of(pairs[i]);
+        if left <= copies {
+            return pairs[i + 1];
+        }
+        left -= copies;
+        i += 2;
+    }
+    0
+}
+
+pub fn sequence_check(sent: &[u8]) -> Checked
+    ensures { λ r. ⌜ r ≡ sequenceCheck (now (sent .entry)) ⌝ }
+{
+    if !whole_pairs(sent) {
+        return Checked::Faulty(Cause::SequencePairs);
+    }
+    if any_bad_pair(sent) | (255 < total_copies(sent)) {
+        return Checked::Faulty(Cause::SequenceCounts);
+    }
+    Checked::Sound
+}
+
+pub fn number_check(sent: &[u8]) -> Checked
+    ensures { λ r. ⌜ r ≡ numberCheck (now (sent .entry)) ⌝ }
+{
+    if sent.len() != 1 {
+        return Checked::Faulty(Cause::NumberRecord);
+    }
+    if sent[0] == 0 {
+        return Checked::Faulty(Cause::NumberRecord);
+    }
+    Checked::Sound
+}
+
+pub fn load_sequence(copies: Copies, sent: &[u8]) -> Copies
+    requires { ⌜ length (now sent) ≤ 16 ⌝ }
+    ensures { λ r. ⌜ r ≡ withSequence copies (now (sent .entry)) ⌝ }
+{
+    let n = sent.len();
+    let mut pairs = [0u8; 16];
+    seq::copy_all(&mut pairs[0..n], sent);
+    Copies {
+        pairs: pairs,
+        count: n as u8,
+        reference: copies.reference,
+    }
+}
+
+pub fn load_number(copies: Copies, n: u8) -> Copies
+    ensures { λ r. ⌜ r ≡ withReference copies n ⌝ }
+{
+    let pairs = copies.pairs;
+    Copies {
+        pairs: pairs,
+        count: copies.count,
+        reference: n,
+    }
+}
+
+pub fn copies_in_range(copies: Copies) -> bool
+    ensures { λ r. ⌜ r ≡ copiesInRange copies ⌝ }
+{
+    let pairs = copies.pairs;
+    let zero = seq::zero_from(&pairs, copies.count as usize);
+    (copies.count <= 16) & (zero & (1 <= copies.reference))
+}
+
+pub fn sequence_ok(copies: Copies) -> bool
+    ensures { λ r. ⌜ r ≡ isSound (sequenceCheck (sequenceNow copies)) ⌝ }
+{
+    let pairs = copies.pairs;
+    sequence_check(seq::front(&pairs, copies.count as usize)).is_sound()
+}
+
+pub fn copy_count(copies: Copies) -> u16
+    ensures { λ r. ⌜ r ≡ copyCount copies ⌝ }
+{
+    let pairs = copies.pairs;
+    total_copies(seq::front(&pairs, copies.count as usize))
+}
+
+pub fn copy_number(copies: Copies, k: u16) -> u16
+    requires { ⌜ 1 ≤ k ⌝ }
+    requires { ⌜ k ≤ 255 ⌝ }
+    ensures { λ r. ⌜ r ≡ copyNumber copies k ⌝ }
+{
+    count_of(copies.reference) + k - 1
+}
+
+pub fn copy_mark(copies: Copies, k: u16) -> u8
+    ensures { λ r. ⌜ r ≡ copyMark copies k ⌝ }
+{
+    let pairs = copies.pairs;
+    mark_in(k, seq::front(&pairs, copies.count as usize))
 }

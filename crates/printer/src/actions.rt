@@ -5,8 +5,8 @@ use crate::Step;
 use calls::Sheet;
 use calls::State;
 use form::Layout;
-use form::Motion;
-use form::Moved;
+use movement::Motion;
+use movement::Moved;
 use line::Causes;
 use numbers::Answer;
 use numbers::Refusal;
@@ -14,7 +14,7 @@ ghost use mathlib.Core.Path.{_≡_};
 ghost use mathlib.Core.List.{List};
 ghost use Prim.Native.Nat.{ℕ, _≤_};
 ghost use lib.ListN.{length};
-ghost use Rattle.form.specs.Movement.{toTop};
+ghost use Rattle.movement.specs.Movement.{toTop};
 ghost use Rattle.line.specs.Line.{noCauses};
 ghost use Rattle.calls.specs.Core.{Stores, withSheet};
 ghost use Rattle.calls.specs.Reset.{blankSheet};
@@ -73,7 +73,7 @@ fn move_of(state: State, form: Layout, motion: Motion) -> Moved
     requires { ⌜ Ready state form ⌝ }
     ensures { λ r. ⌜ r ≡ moveOf state motion ⌝ }
 {
-    form::movement::move_form(state.forms, form.top, form.lines, state.sheet.line, motion)
+    movement::move_form(state.forms, form.top, form.lines, state.sheet.line, motion)
 }
 
 impl Printer {

@@ -7,7 +7,7 @@ use calls::Command;
 use calls::Control;
 use calls::Load;
 use form::Layout;
-use form::Motion;
+use movement::Motion;
 use numbers::Refusal;
 ghost use mathlib.Core.Path.{_≡_};
 ghost use mathlib.Core.Bool.{cond};

@@ -47,7 +47,7 @@ fn ranges_ok(state: State, form: Layout) -> bool
     let fixed = fixed_ok(state.fixed);
     let forms = form::fcb::forms_in_range(state.forms);
     let slots = line::tables::slots_in_range(state.slots);
-    let copies = copies::sequence::copies_in_range(state.copies);
+    let copies = copies::copies_in_range(state.copies);
     fixed & (forms & (slots & (copies & ((1 <= line) & (line as u16 <= form.lines)))))
 }
 
@@ -89,7 +89,7 @@ pub(crate) fn contents_ok(
     let due = due_ok(state.sheet);
     let mark = mark_ok(state.sheet);
     let forms = forms_ok(state, form);
-    let sequence = copies::sequence::sequence_ok(state.copies);
-    let stored = copies::legends::legends_ok(legends);
+    let sequence = copies::sequence_ok(state.copies);
+    let stored = legends::legends_ok(legends);
     ranges & (due & (mark & (forms & (sequence & stored))))
 }

@@ -11,7 +11,7 @@ ghost use Prim.Native.Nat.{ℕ, _≤_};
 ghost use lib.ListN.{length};
 ghost use Rattle.numbers.specs.declared.Checked.the-variants.{Sound};
 ghost use Rattle.form.specs.Form.{formOk};
-ghost use Rattle.copies.specs.Legends.{legendCheck};
+ghost use Rattle.legends.specs.Legends.{legendCheck};
 ghost use Rattle.calls.specs.declared.Load.the-variants.{Fcb, TranslateTable, CopyModification, OverlaySequence, CopyNumber};
 ghost use Rattle.calls.specs.Core.{Stores};
 ghost use Rattle.calls.specs.Effects.{loadCheck, slotLoaded, doLoad};
@@ -77,7 +77,7 @@ impl Printer {
         let slots = state.slots;
         let loaded = line::tables::is_loaded(slots);
         let table = line::tables::serving(slots, tables);
-        let found = copies::legends::store_legends(legends, sent, pitches, table);
+        let found = legends::store_legends(legends, sent, pitches, table);
         let causes = Causes {
             unprintable: found,
             unloaded: !loaded,
@@ -92,7 +92,7 @@ impl Printer {
         ensures { λ r. ⌜ ((m : Stores) → Did self m r m (λ k. doLoad k OverlaySequence (now (sent .entry)))) ⌝ }
     {
         let mut state = self.state;
-        let copies = copies::sequence::load_sequence(state.copies, sent);
+        let copies = copies::load_sequence(state.copies, sent);
         state.copies = copies;
         self.state = state;
         self.stand(Causes::NONE)
@@ -103,7 +103,7 @@ impl Printer {
         ensures { λ r. ⌜ ((m : Stores) → Did self m r m (λ k. doLoad k CopyNumber (now (sent .entry)))) ⌝ }
     {
         let mut state = self.state;
-        let copies = copies::sequence::load_number(state.copies, sent[0]);
+        let copies = copies::load_number(state.copies, sent[0]);
         state.copies = copies;
         self.state = state;
         self.stand(Causes::NONE)

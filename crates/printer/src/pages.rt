@@ -14,7 +14,7 @@ ghost use Prim.Native.Nat.{ℕ, _*_, _≤_};
 ghost use lib.ListN.{length};
 ghost use Rattle.form.specs.Form.{formOk};
 ghost use Rattle.line.specs.Line.{lineBytes};
-ghost use Rattle.copies.specs.Legends.{legendsOk};
+ghost use Rattle.legends.specs.Legends.{legendsOk};
 ghost use Rattle.calls.specs.Calls.{compose, release, doCompose, doRelease, outcomeOf, step};
 ghost use Rattle.printer.specs.Whole.{storesOf, coreOf, worldOf, outcome, Ready, Did};
 
@@ -38,9 +38,9 @@ impl Printer {
             outcome r (now (out .exit)) m ≡ outcomeOf (self .sense) (now (out .entry)) (doCompose (coreOf self m) copy)) ⌝ }
     {
         let state = self.state;
-        let number = copies::sequence::copy_number(state.copies, copy);
-        let mark = copies::sequence::copy_mark(state.copies, copy);
-        copies::compose::compose(out, page, legends, number, form.lines as u8);
+        let number = copies::copy_number(state.copies, copy);
+        let mark = copies::copy_mark(state.copies, copy);
+        legends::compose::compose(out, page, legends, number, form.lines as u8);
         Step {
             printer: self,
             answer: Answer {

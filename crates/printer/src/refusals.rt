@@ -47,10 +47,10 @@ fn load_check(form: u16, load: Load, sent: &[u8]) -> Checked
 {
     match load {
         Load::Fcb => form::fcb::fcb_check(form, sent),
-        Load::TranslateTable => copies::sequence::table_check(sent),
-        Load::CopyModification => copies::legends::legend_check(sent),
-        Load::OverlaySequence => copies::sequence::sequence_check(sent),
-        Load::CopyNumber => copies::sequence::number_check(sent),
+        Load::TranslateTable => copies::table_check(sent),
+        Load::CopyModification => legends::legend_check(sent),
+        Load::OverlaySequence => copies::sequence_check(sent),
+        Load::CopyNumber => copies::number_check(sent),
     }
 }
 
@@ -135,7 +135,7 @@ pub(crate) fn compose_refusal(
     if !state.sheet.waiting {
         return Refusal::NoPage;
     }
-    let count = copies::sequence::copy_count(state.copies);
+    let count = copies::copy_count(state.copies);
     if (copy == 0) | ((count as u32) < copy) {
         return Refusal::BadIndex;
     }

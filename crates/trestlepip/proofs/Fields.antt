@@ -17,12 +17,12 @@ use Rattle.numbers.specs.declared.Refusal.{Refusal}
 use Rattle.numbers.specs.declared.Refusal.the-variants.{Accepted, NotListed, BadRecord, LoadCheck, PageWaiting, PageStarted, NoPage, BadIndex, TooShort, BadStore, BadForm, TwoPages}
 use Rattle.numbers.specs.Numbers.{causeOf, rowOf, numberOf, isAccepted, only}
 use Rattle.numbers.proofs.Laws.{faulty, accepted-is}
-use Rattle.form.specs.declared.Motion.{Motion}
-use Rattle.form.specs.declared.Motion.the-variants.{Space, Skip}
-use Rattle.form.specs.declared.Moved.{Moved}
-use Rattle.form.specs.Movement.{Spot, entered, spaced, moved, still, toTop}
+use Rattle.movement.specs.declared.Motion.{Motion}
+use Rattle.movement.specs.declared.Motion.the-variants.{Space, Skip}
+use Rattle.movement.specs.declared.Moved.{Moved}
+use Rattle.movement.specs.Movement.{Spot, entered, spaced, moved, still, toTop}
 use Rattle.form.proofs.FormLaws.{form-listed, few-lines}
-use Rattle.form.proofs.MovementLaws.{skipped-most}
+use Rattle.movement.proofs.MovementLaws.{skipped-most}
 use Rattle.line.specs.declared.Causes.{Causes}
 use Rattle.line.specs.Line.{causeByte}
 use Rattle.copies.specs.declared.Copies.{Copies}

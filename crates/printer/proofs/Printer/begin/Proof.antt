@@ -11,7 +11,7 @@ use Rattle.seq.specs.Words.{listed}
 use Rattle.seq.proofs.Laws.{and-left, and-right, every-at, listed-all}
 use Rattle.form.specs.Form.{pitchesListed, pitchesOk, formOk}
 use Rattle.form.proofs.FormLaws.{form-listed, short-form}
-use Rattle.copies.specs.Legends.{noLegends}
+use Rattle.legends.specs.Legends.{noLegends}
 use Rattle.calls.specs.Reset.{noCells, resetStores, fresh}
 use Rattle.calls.specs.Start.{startWorld}
 use Rattle.calls.proofs.Good.{sizes-good}

@@ -1,5 +1,5 @@
 -- The sheet is moved to the top, then all is finished.
-use Rattle.form.specs.Movement.{toTop}
+use Rattle.movement.specs.Movement.{toTop}
 use Rattle.line.specs.Line.{noCauses}
 use borrow.Author.Needs.{needs}
 use Rattle.printer.proofs.Printer.complete.Statement.{statement}

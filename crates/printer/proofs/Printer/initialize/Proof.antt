@@ -1,7 +1,7 @@
 -- Started or not, as the definition has it; what is reported does not depend on the line.
 use Rattle.line.specs.Line.{noCauses}
 use mathlib.Core.Path.{sym, _∙_}
-use Rattle.form.specs.Movement.{still}
+use Rattle.movement.specs.Movement.{still}
 use Rattle.calls.specs.Effects.{done, doControl, completing}
 use borrow.Author.Needs.{needs}
 use Rattle.printer.proofs.Printer.initialize.Statement.{statement}

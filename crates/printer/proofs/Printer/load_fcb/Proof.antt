@@ -1,5 +1,5 @@
 -- The forms stored, the form at line 1, then nothing moved; what is reported does not depend on the line.
-use Rattle.form.specs.Movement.{still}
+use Rattle.movement.specs.Movement.{still}
 use Rattle.line.specs.Line.{noCauses}
 use Rattle.calls.specs.Effects.{done, atLine1, loaded, loadCauses, doLoad}
 use borrow.Author.Needs.{needs}

@@ -6,8 +6,8 @@ use native.Mathlib.Omega.{arith}
 use lib.ListN.{length, take}
 use lib.Seq.{length-take-le}
 use Rattle.line.specs.Line.{lineBytes}
-use Rattle.copies.specs.Legends.{composed}
-use Rattle.copies.proofs.ComposeLaws.{length-copyFrom}
+use Rattle.legends.specs.Legends.{composed}
+use Rattle.legends.proofs.ComposeLaws.{length-copyFrom}
 use Rattle.calls.specs.Core.{P}
 use Rattle.calls.specs.Calls.{copyAt, doCompose}
 use Rattle.printer.proofs.Ready.{form-lines}

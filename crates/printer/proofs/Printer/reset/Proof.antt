@@ -3,7 +3,7 @@ use mathlib.Core.Path.{refl, ap, _∙_}
 use Prim.Native.Nat.{ℕ}
 use lib.ListN.{replicate}
 use Rattle.form.proofs.FormLaws.{form-listed}
-use Rattle.copies.specs.Legends.{noLegends}
+use Rattle.legends.specs.Legends.{noLegends}
 use Rattle.calls.specs.Reset.{reset, resetStores}
 use borrow.Author.Needs.{needs}
 use Rattle.printer.proofs.Printer.reset.Statement.{statement}

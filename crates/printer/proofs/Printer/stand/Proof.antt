@@ -1,5 +1,5 @@
 -- The causes and the movement that are none.
-use Rattle.form.specs.Movement.{still}
+use Rattle.movement.specs.Movement.{still}
 use borrow.Author.Needs.{needs}
 use Rattle.printer.proofs.Printer.stand.Statement.{statement}
 use Rattle.printer.proofs.Printer.stand.Tie as tie

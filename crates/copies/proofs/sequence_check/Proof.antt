@@ -1,0 +1,43 @@
+-- Both tests in order; whole pairs are at most 16 bytes, so their sum does not wrap.
+use mathlib.Core.Path.{_≡_, sym, _∙_}
+use mathlib.Core.Bool.{true}
+use borrow.Author.Tests.{not-true, not-false}
+use Rattle.seq.specs.Words.{when, firstOr}
+use Rattle.copies.specs.Copies.{wholePairs, sequenceCheck}
+use Rattle.copies.proofs.CopiesLaws.{whole-fits}
+use borrow.Author.Needs.{needs}
+use Rattle.copies.proofs.sequence_check.Statement.{statement}
+use Rattle.copies.proofs.sequence_check.Tie as tie
+
+whole : (c : tie.Else1) → wholePairs (c .before .before .before .args .sent .now) ≡ true
+whole c = sym (c .before .whole-pairs .ensures) ∙ not-false _ (c .if1 .left)
+
+returns : tie.Need-returns
+unfolding sequenceCheck firstOr when
+returns c = simp (sym (c .before .whole-pairs .ensures) ∙ not-true _ (c .if1 .taken))
+
+total-copies-requires : tie.Need-total-copies-requires
+total-copies-requires c κs = whole-fits (c .before .before .before .before .args .sent .now) (whole (c .before))
+
+returns-2 : tie.Need-returns-2
+unfolding sequenceCheck firstOr when
+returns-2 c =
+    simp
+    (whole (c .before .before .before), sym (c .before .before .any-bad-pair .ensures), sym (c .before .total-copies .ensures), c .if2 .taken)
+
+returns-3 : tie.Need-returns-3
+unfolding sequenceCheck firstOr when
+returns-3 c =
+    simp
+    (whole (c .before .before .before), sym (c .before .before .any-bad-pair .ensures), sym (c .before .total-copies .ensures), c .if2 .left)
+
+pub sequence-check-spec : {M : Type 1} → statement M
+sequence-check-spec =
+    tie.close
+    (tie.spec
+    (λ c κs. search needs)
+    returns
+    (λ c κs. search needs)
+    total-copies-requires
+    returns-2
+    returns-3)

@@ -1,0 +1,315 @@
+-- What one segment shows on a copy, cell by cell, and the walk over stored legends.
+use Prim.Native.Nat.{ℕ, zero, suc, _+_, _*_, _-_, _/_, _%_, _≤_, _<_, min}
+use mathlib.Core.Path.{_≡_, refl, sym, ap, _∙_}
+use mathlib.Core.Bool.{Bool, true, false, cond, _&&_, false≢true}
+use mathlib.Core.List.{List, [], _∷_, _++_, map}
+use native.Mathlib.Nat.{zero-add, add-zero, le-of-suc-le-suc, not-suc-le-zero}
+use native.Mathlib.Omega.{arith}
+use lib.ListN.{length, getD, take, drop, length-append, length-take, length-drop, List·getD-append}
+use lib.Seq.{drop-at, take-add, take-take, drop-drop, getD-take, getD-drop, getD-append-add, length-take-le, ext-getD}
+use lib.Dec.{leb, ltb, lit<}
+use borrow.Author.Tests.{leb-true, ltb-true, le-leb, lt-ltb, ltb-false}
+use Rattle.seq.proofs.Laws.{and-left, and-right, and-both}
+use Rattle.numbers.specs.Numbers.{isSound}
+use Rattle.legends.specs.Legends.{Segment, segmentOf, segmentLength, storedSegments, legendsOk}
+use Rattle.legends.specs.Legends.{among, covers, shown, copyFrom}
+use Rattle.legends.proofs.SegmentLaws.{found, rest, Whole, whole, byte-set, ends-in-line, end-at, rest-at, stored-next, cut-end}
+use Rattle.legends.proofs.StoredLaws.{first-set, ok-sound, ok-front}
+
+-- A copy as a list: its length, its cells; no segment leaves the page, and segments show one after the other.
+pub length-copyFrom : (gs : List Segment) (number i : ℕ) (cs : List ℕ) → length (copyFrom gs number i cs) ≡ length cs
+unfolding copyFrom
+length-copyFrom gs number i [] = refl
+length-copyFrom gs number i (c ∷ cs) = ap suc (length-copyFrom gs number (suc i) cs)
+
+getD-copyFrom : (gs : List Segment) (number i k : ℕ) (cs : List ℕ) → k < length cs
+    → getD (copyFrom gs number i cs) k 0 ≡ shown gs number ((i + k) / 204 + 1) ((i + k) % 204 + 1) (getD cs k 0)
+unfolding copyFrom
+getD-copyFrom gs number i k [] h = absurd (not-suc-le-zero h)
+getD-copyFrom gs number i zero (c ∷ cs) h = rw (add-zero i) refl
+getD-copyFrom gs number i (suc k) (c ∷ cs) h =
+    let next : suc i + k ≡ i + suc k = omega arith in
+    rw (← next) (getD-copyFrom gs number (suc i) k cs (le-of-suc-le-suc h))
+
+copy-none : (number i : ℕ) (cs : List ℕ) → copyFrom [] number i cs ≡ cs
+unfolding copyFrom shown
+copy-none number i [] = refl
+copy-none number i (c ∷ cs) = ap (λ (l : List ℕ). c ∷ l) (copy-none number (suc i) cs)
+
+copy-cons : (g : Segment) (gs : List Segment) (number i : ℕ) (cs : List ℕ)
+    → copyFrom (g ∷ gs) number i cs ≡ copyFrom gs number i (copyFrom (g ∷ []) number i cs)
+unfolding copyFrom shown
+copy-cons g gs number i [] = refl
+copy-cons g gs number i (c ∷ cs) = rw (copy-cons g gs number (suc i) cs) refl
+
+-- Where a segment covers a cell, as inequalities.
+abbrev pub Among : ℕ → ℕ → ℕ → Type 0
+Among a n x = (a ≤ x) × (x < a + n)
+
+abbrev Covered : Segment → ℕ → ℕ → ℕ → Type 0
+Covered g number line position =
+    Among (g .firstCopy) (g .copies) number × (Among (g .firstLine) (g .lines) line × Among (g .firstPosition) (g .positions) position)
+
+among-gives : (a n x : ℕ) → among a n x ≡ true → Among a n x
+among-gives a n x e = (leb-true a x (and-left (leb a x) (ltb x (a + n)) e), ltb-true x (a + n) (and-right (leb a x) (ltb x (a + n)) e))
+
+among-in : (a n x : ℕ) → Among a n x → among a n x ≡ true
+among-in a n x h = and-both (le-leb a x (h .0)) (lt-ltb x (a + n) (h .1))
+
+covers-gives : (g : Segment) (number line position : ℕ) → covers g number line position ≡ true → Covered g number line position
+unfolding covers
+covers-gives g number line position e =
+    let a = among (g .firstCopy) (g .copies) number in
+    let b = among (g .firstLine) (g .lines) line in
+    let c = among (g .firstPosition) (g .positions) position in
+    let ab : (a && b) ≡ true = and-left (a && b) c e in
+    (among-gives _ _ number (and-left a b ab), (among-gives _ _ line (and-right a b ab), among-gives _ _ position (and-right (a && b) c e)))
+
+covers-in : (g : Segment) (number line position : ℕ) → Covered g number line position → covers g number line position ≡ true
+unfolding covers
+covers-in g number line position c = and-both (and-both (among-in _ _ number (c .0)) (among-in _ _ line (c .1 .0))) (among-in _ _ position (c .1 .1))
+
+same-test : (a b : Bool) → (a ≡ true → b ≡ true) → (b ≡ true → a ≡ true) → a ≡ b
+same-test true b f g = sym (f refl)
+same-test false true f g = g refl
+same-test false false f g = refl
+
+covers-same : (g h : Segment) (n m line position : ℕ) → (Covered g n line position → Covered h m line position)
+    → (Covered h m line position → Covered g n line position) → covers g n line position ≡ covers h m line position
+covers-same g h n m line position to back =
+    same-test _ _ (λ e. covers-in h m line position (to (covers-gives g n line position e)))
+    (λ e. covers-in g n line position (back (covers-gives h m line position e)))
+
+not-covered : (g : Segment) (number line position : ℕ) → (Covered g number line position → ⊥) → covers g number line position ≡ false
+not-covered g number line position none = same-test _ false (λ e. absurd (none (covers-gives g number line position e))) (λ e. absurd (false≢true e))
+
+-- What one segment makes of cell k.
+module _ (g : Segment) (number : ℕ) where
+  abbrev over : ℕ → ℕ → ℕ
+  over k c = cond (covers g number (k / 204 + 1) (k % 204 + 1)) (getD (g .text) (k % 204 + 1 - g .firstPosition) 0) c
+
+  getD-over : (k : ℕ) (cs : List ℕ) → k < length cs → getD (copyFrom (g ∷ []) number 0 cs) k 0 ≡ over k (getD cs k 0)
+  unfolding shown
+  getD-over k cs h = getD-copyFrom (g ∷ []) number 0 k cs h ∙ rw (zero-add k) refl
+
+  copy-is : (old new : List ℕ) → length new ≡ length old → ((k : ℕ) → k < length old → getD new k 0 ≡ over k (getD old k 0))
+      → new ≡ copyFrom (g ∷ []) number 0 old
+  copy-is old new l f =
+      ext-getD 0 new (copyFrom (g ∷ []) number 0 old) (l ∙ sym (length-copyFrom (g ∷ []) number 0 old))
+      (λ k h. let h′ : k < length old = omega (arith, l, h) in f k h′ ∙ sym (getD-over k old h′))
+
+  -- a segment that covers no cell leaves all
+  copy-same : (old : List ℕ) → ((k : ℕ) → k < length old → covers g number (k / 204 + 1) (k % 204 + 1) ≡ false) → old ≡ copyFrom (g ∷ []) number 0 old
+  copy-same old f = copy-is old old refl (λ k h. rw (f k h) refl)
+
+-- Two segments of one text and first position that cover the same cells show the same.
+copy-alike : (g h : Segment) (n m : ℕ) (old : List ℕ) → g .text ≡ h .text → g .firstPosition ≡ h .firstPosition
+    → ((k : ℕ) → k < length old → covers g n (k / 204 + 1) (k % 204 + 1) ≡ covers h m (k / 204 + 1) (k % 204 + 1))
+    → copyFrom (g ∷ []) n 0 old ≡ copyFrom (h ∷ []) m 0 old
+copy-alike g h n m old t p f =
+    copy-is h m old (copyFrom (g ∷ []) n 0 old) (length-copyFrom (g ∷ []) n 0 old)
+    (λ k l. getD-over g n k old l ∙ rw (f k l, t, p) refl)
+
+-- A list with ys in the place of what stood at `at`: before, in and after it.
+module _ (at : ℕ) (ys out : List ℕ) (room : at + length ys ≤ length out) where
+  abbrev put : List ℕ
+  put = take at out ++ (ys ++ drop (length ys) (drop at out))
+
+  front : length (take at out) ≡ at
+  front = length-take-le at out (omega (arith, room))
+
+  length-put : length put ≡ length out
+  length-put = simp (length-append, length-take, length-drop) (omega (arith, room))
+
+  put-before : (k : ℕ) → k < at → getD put k 0 ≡ getD out k 0
+  put-before k h = List·getD-append (take at out) _ 0 k (omega (arith, front, h)) ∙ getD-take at out k 0 h
+
+  put-rest : (k : ℕ) → at ≤ k → getD put k 0 ≡ getD (ys ++ drop (length ys) (drop at out)) (k - at) 0
+  put-rest k h =
+      let e : k ≡ length (take at out) + (k - at) = omega (arith, front, h) in
+      ap (λ (j : ℕ). getD put j 0) e ∙ getD-append-add (take at out) _ (k - at) 0
+
+  put-in : (k : ℕ) → at ≤ k → k < at + length ys → getD put k 0 ≡ getD ys (k - at) 0
+  put-in k h l = put-rest k h ∙ List·getD-append ys _ 0 (k - at) (omega arith)
+
+  put-after : (k : ℕ) → at + length ys ≤ k → getD put k 0 ≡ getD out k 0
+  put-after k h =
+      let e : k - at ≡ length ys + (k - at - length ys) = omega arith in
+      let j : at + (length ys + (k - at - length ys)) ≡ k = omega arith in
+      put-rest k (omega arith) ∙ ap (λ (i : ℕ). getD (ys ++ drop (length ys) (drop at out)) i 0) e ∙ getD-append-add ys _ (k - at - length ys) 0
+      ∙ getD-drop (length ys) (drop at out) (k - at - length ys) 0 ∙ getD-drop at out (length ys + (k - at - length ys)) 0
+      ∙ ap (λ (i : ℕ). getD out i 0) j
+
+-- A text laid into rows, as a segment for copy 0 alone: into none, and into a row more.
+abbrev pub laid : List ℕ → ℕ → ℕ → ℕ → Segment
+laid text row place past =
+    record { firstCopy = 0; copies = 1; firstLine = row + 1; lines = past - row; firstPosition = place + 1; positions = length text; text = text }
+
+module _ (text old : List ℕ) (row place : ℕ) where
+  abbrev rows : ℕ → Segment
+  rows = laid text row place
+
+  pub rows-none : (past : ℕ) → past ≤ row → old ≡ copyFrom (rows past ∷ []) 0 0 old
+  rows-none past h = copy-same (rows past) 0 old (λ k l. not-covered (rows past) 0 _ _ (λ c. omega (arith, h, c)))
+
+  module _ (i : ℕ) (out : List ℕ) (later : row ≤ i) (narrow : place + length text ≤ 204) (room : (i + 1) * 204 ≤ length old)
+      (e : out ≡ copyFrom (rows i ∷ []) 0 0 old) where
+    abbrev at : ℕ
+    at = i * 204 + place
+
+    same-size : length out ≡ length old
+    same-size = ap length e ∙ length-copyFrom (rows i ∷ []) 0 0 old
+
+    fits-row : at + length text ≤ length out
+    fits-row = omega (arith, same-size, narrow, room)
+
+    -- outside the text laid now, the row more covers what was covered
+    outside : (k : ℕ) → k < length old → (Covered (rows (i + 1)) 0 (k / 204 + 1) (k % 204 + 1) → k / 204 < i)
+        → getD out k 0 ≡ over (rows (i + 1)) 0 k (getD old k 0)
+    outside k h f =
+        let t = covers-same (rows i) (rows (i + 1)) 0 0 (k / 204 + 1) (k % 204 + 1) (λ c. (c .0, ((c .1 .0 .0, omega (arith, c)), c .1 .1)))
+        (λ c. (c .0, ((c .1 .0 .0, omega (arith, c, f c)), c .1 .1))) in
+        ap (λ (l : List ℕ). getD l k 0) e ∙ getD-over (rows i) 0 k old h ∙ rw t refl
+
+    inside : (k : ℕ) → at ≤ k → k < at + length text → getD text (k - at) 0 ≡ over (rows (i + 1)) 0 k (getD old k 0)
+    inside k h l =
+        let t = covers-in (rows (i + 1)) 0 (k / 204 + 1) (k % 204 + 1)
+        ((omega arith, omega arith), ((omega arith, omega arith), (omega arith, omega arith))) in
+        let p : k % 204 + 1 - (place + 1) ≡ k - at = omega arith in
+        rw (t, p) refl
+
+    abbrev Right : ℕ → Type 0
+    Right k = getD (put at text out fits-row) k 0 ≡ over (rows (i + 1)) 0 k (getD old k 0)
+
+    each : (k : ℕ) → k < length old → Right k
+    each k h = go (ltb k at) (ltb k (at + length text)) refl refl
+      where
+        go : (a b : Bool) → ltb k at ≡ a → ltb k (at + length text) ≡ b → Right k
+        go true b u v =
+            let l : k < at = ltb-true k at u in
+            put-before at text out fits-row k l ∙ outside k h (λ c. omega (arith, c))
+        go false true u v =
+            let l : at ≤ k = ltb-false k at u in
+            let m : k < at + length text = ltb-true k (at + length text) v in
+            put-in at text out fits-row k l m ∙ inside k l m
+        go false false u v =
+            let m : at + length text ≤ k = ltb-false k (at + length text) v in
+            put-after at text out fits-row k m ∙ outside k h (λ c. omega (arith, c))
+
+    pub rows-more : take at out ++ (text ++ drop (length text) (drop at out)) ≡ copyFrom (rows (i + 1) ∷ []) 0 0 old
+    rows-more = copy-is (rows (i + 1)) 0 old (put at text out fits-row) (length-put at text out fits-row ∙ same-size) each
+
+-- A segment of other copies leaves all; of this copy, its rows as far as there are lines show it.
+other-copy : (g : Segment) (number : ℕ) (old : List ℕ) → (Among (g .firstCopy) (g .copies) number → ⊥) → old ≡ copyFrom (g ∷ []) number 0 old
+other-copy g number old none = copy-same g number old (λ k h. not-covered g number _ _ (λ c. none (c .0)))
+
+abbrev rowsOf : Segment → ℕ → Segment
+rowsOf g lines = laid (g .text) (g .firstLine - 1) (g .firstPosition - 1) (min (g .firstLine - 1 + g .lines) lines)
+
+this-copy : (g : Segment) (number lines : ℕ) (old : List ℕ) → Among (g .firstCopy) (g .copies) number → 1 ≤ g .firstLine → 1 ≤ g .firstPosition
+    → length (g .text) ≡ g .positions → length old ≡ 204 * lines → copyFrom (rowsOf g lines ∷ []) 0 0 old ≡ copyFrom (g ∷ []) number 0 old
+this-copy g number lines old a line position size room =
+    copy-alike (rowsOf g lines) g 0 number old refl (omega arith)
+    (λ k m. covers-same (rowsOf g lines) g 0 number (k / 204 + 1) (k % 204 + 1)
+    (λ c. (a, ((omega (arith, c), omega (arith, c)), (omega (arith, c), omega (arith, c)))))
+    (λ c. ((omega arith, omega arith), ((omega (arith, c), omega (arith, c)), (omega (arith, c), omega (arith, c))))))
+
+-- The segment at a place, its six bytes read there: the text is there, and they say where it goes.
+pub record Placed (l : List ℕ) (at : ℕ) : Type 0 where
+  pub fits : at + 6 + getD l (at + 5) 0 ≤ length l
+  pub line : 1 ≤ getD l (at + 2) 0
+  pub position : 1 ≤ getD l (at + 4) 0
+  pub ends : getD l (at + 4) 0 + getD l (at + 5) 0 ≤ 205
+
+pub placed : (l : List ℕ) (at : ℕ) → Whole (drop at l) → Placed l at
+placed l at w =
+    let read : (k : ℕ) → getD l (at + k) 0 ≡ getD (drop at l) k 0 = λ k. sym (getD-drop at l k 0) in
+    record {
+      fits = rw (read 5) (omega (arith, end-at l at (segmentLength (drop at l)) refl w));
+      line = rw (read 2) (byte-set (drop at l) w 2 (lit< tt));
+      position = rw (read 4) (byte-set (drop at l) w 4 (lit< tt));
+      ends = rw (read 4, read 5) (ends-in-line (drop at l) w);
+    }
+
+first-at : (l : List ℕ) (at : ℕ) → getD (drop at l) 0 0 ≡ getD l at 0
+first-at l at = getD-drop at l 0 0 ∙ ap (λ (i : ℕ). getD l i 0) (add-zero at)
+
+pub text-at : (l : List ℕ) (at : ℕ) → take (getD l (at + 5) 0) (drop (at + 6) l) ≡ segmentOf (drop at l) .text
+unfolding segmentOf
+text-at l at = rw (getD-drop at l 5 0, drop-drop 6 at l) refl
+
+pub length-text : (l : List ℕ) (at : ℕ) → Placed l at → length (segmentOf (drop at l) .text) ≡ getD l (at + 5) 0
+length-text l at w = rw (← text-at l at) (simp (length-take, length-drop) (omega (arith, w)))
+
+module _ (l : List ℕ) (at number : ℕ) (old : List ℕ) where
+  pub other-segment : (Among (getD l at 0) (getD l (at + 1) 0) number → ⊥) → old ≡ copyFrom (segmentOf (drop at l) ∷ []) number 0 old
+  unfolding segmentOf
+  other-segment none = other-copy (segmentOf (drop at l)) number old (rw (first-at l at, getD-drop at l 1 0) none)
+
+  pub this-segment : (lines : ℕ) → Placed l at → Among (getD l at 0) (getD l (at + 1) 0) number → length old ≡ 204 * lines
+      → (let row = getD l (at + 2) 0 - 1 in
+      copyFrom (laid (segmentOf (drop at l) .text) row (getD l (at + 4) 0 - 1) (min (row + getD l (at + 3) 0) lines) ∷ []) 0 0 old
+      ≡ copyFrom (segmentOf (drop at l) ∷ []) number 0 old)
+  unfolding segmentOf
+  this-segment lines w a room =
+      rw (← getD-drop at l 2 0, ← getD-drop at l 3 0, ← getD-drop at l 4 0)
+      (this-copy (segmentOf (drop at l)) number lines old
+      (rw (first-at l at, getD-drop at l 1 0) a)
+      (rw (getD-drop at l 2 0) (w .line))
+      (rw (getD-drop at l 4 0) (w .position))
+      (length-text l at w ∙ sym (getD-drop at l 5 0))
+      room)
+
+-- A segment cut off is the one at the front of the bytes it was cut from.
+segment-front : (s : List ℕ) → 6 ≤ length s → segmentOf (take (segmentLength s) s) ≡ segmentOf s
+unfolding segmentOf
+segment-front s h =
+    let m = segmentLength s in
+    let at : (k : ℕ) → k < 6 → getD (take m s) k 0 ≡ getD s k 0 = λ k j. getD-take m s k 0 (omega arith) in
+    let text : drop 6 (take m s) ≡ take (getD s 5 0) (drop 6 s)
+    = ap (drop 6) (take-add 6 (getD s 5 0) s) ∙ drop-at (take 6 s) (take (getD s 5 0) (drop 6 s)) 6 (length-take-le 6 s h) in
+    rw (
+      text,
+      at 0 (lit< tt),
+      at 1 (lit< tt),
+      at 2 (lit< tt),
+      at 3 (lit< tt),
+      at 4 (lit< tt),
+      at 5 (lit< tt),
+      take-take (getD s 5 0) (getD s 5 0) (drop 6 s) (omega arith),
+    )
+    refl
+
+-- The walk over stored legends: from `at` on they are such as a printer can have, and lead from `out` to the goal.
+unfoldable pub Left : List ℕ → ℕ → ℕ → List ℕ → List ℕ → Type 0
+Left l number at out goal = (legendsOk (drop at l) ≡ true) × (copyFrom (map segmentOf (storedSegments (drop at l))) number 0 out ≡ goal)
+
+pub left-start : (l : List ℕ) (number : ℕ) (out : List ℕ) → legendsOk l ≡ true
+    → Left l number 0 out (copyFrom (map segmentOf (storedSegments l)) number 0 out)
+unfolding Left
+left-start l number out e = (e, refl)
+
+pub left-end : (l : List ℕ) (number at : ℕ) (out goal : List ℕ) → getD l at 0 ≡ 0 → Left l number at out goal → out ≡ goal
+unfolding Left storedSegments
+left-end l number at out goal z (ok, e) = sym (copy-none number 0 out) ∙ (rw (cut-end (length (drop at l)) (drop at l) (first-at l at ∙ z)) at e)
+
+module _ (l : List ℕ) (number at : ℕ) (out goal : List ℕ) (some : getD l at 0 ≡ 0 → ⊥) (left : Left l number at out goal) where
+  abbrev here : List ℕ
+  here = drop at l
+
+  sound : isSound (found here) ≡ true
+  unfolding Left
+  sound = ok-front here (left .0) (λ e. some (sym (first-at l at) ∙ e))
+
+  pub left-here : Whole here
+  left-here = whole here sound
+
+  pub left-step : (m : ℕ) → m ≡ segmentLength here → Left l number (at + m) (copyFrom (segmentOf here ∷ []) number 0 out) goal
+  unfolding Left
+  left-step m e =
+      let w = left-here in
+      let next = rest-at l at m e in
+      let cuts = stored-next here (omega (arith, w .size)) (first-set here w) in
+      let c = copy-cons (segmentOf here) (map segmentOf (storedSegments (rest here))) number 0 out in
+      let q = rw (cuts, segment-front here (omega (arith, w .size)), c) at (left .1) in
+      (rw (← next) (sym (ok-sound here sound) ∙ left .0), rw (← next) q)

@@ -1,0 +1,4 @@
+pub mod SegmentLaws
+pub mod LegendLaws
+pub mod StoredLaws
+pub mod ComposeLaws

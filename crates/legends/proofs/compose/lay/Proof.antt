@@ -1,0 +1,62 @@
+-- Each turn lays the text into one row more.
+use mathlib.Core.Path.{_≡_, refl, ap, _∙_}
+use mathlib.Core.List.{[], _∷_}
+use Prim.Native.Nat.{_≤_, _-_}
+use native.Mathlib.Nat.{add-sub-cancel-left}
+use native.Mathlib.Omega.{arith}
+use lib.ListN.{length}
+use borrow.Author.Needs.{needs}
+use Rattle.legends.specs.Legends.{copyFrom}
+use Rattle.legends.proofs.ComposeLaws.{laid, rows-none, rows-more, length-copyFrom}
+use Rattle.legends.proofs.compose.lay.Statement.{statement}
+use Rattle.legends.proofs.compose.lay.Tie as tie
+
+abbrev Inv-loop : tie.InvT-loop
+Inv-loop out₀ text row end place n i₀ out i =
+    (row ≤ i) × ((i - row ≤ end - row) × ((length out ≡ length out₀) × (out ≡ copyFrom (laid text row place i ∷ []) 0 0 out₀)))
+
+abbrev μ-loop : tie.MeasureT-loop
+μ-loop out₀ text row end place n i₀ out i = end - i
+
+loop-holds : tie.Need-loop-holds Inv-loop μ-loop
+loop-holds c = (search needs, (search needs, (refl, rows-none (c .before .before .args .text .now) _ _ _ _ (search needs))))
+
+loop-again : tie.Need-loop-again Inv-loop μ-loop
+loop-again c =
+    let a = c .before .before .before .before .before .before .before .before .args in
+    let l = c .before .before .before .before .before .loop in
+    let e = rows-more (a .text .now) (a .out .now) (a .row) (a .place) (l .i) (l .out) (search needs) (search needs) (search needs)
+    (l .inv .1 .1 .1) in (
+      search needs,
+      (
+        search needs,
+        simp (add-sub-cancel-left, c .before .before .copy-all .ensures) (ap length e ∙ length-copyFrom _ 0 0 (a .out .now), e),
+      ),
+    )
+
+returns : tie.Need-returns Inv-loop μ-loop
+returns c =
+    let a = c .before .before .before .before .args in
+    let l = c .before .loop in
+    let all : l .i - a .row ≡ a .end - a .row = omega arith in
+    l .inv .1 .1 .1 ∙ rw all refl
+
+pub lay-spec : {M : Type 1} → statement M
+lay-spec =
+    tie.close
+    (tie.spec
+    Inv-loop
+    μ-loop
+    loop-holds
+    (λ c. search needs)
+    (λ c. search needs)
+    (λ c. search needs)
+    (λ c. search needs)
+    (λ c. search needs)
+    (λ c. search needs)
+    (λ c κs. search needs)
+    (λ c. search needs)
+    (λ c. search needs)
+    loop-again
+    (λ c. search needs)
+    returns)

@@ -1,0 +1,97 @@
+-- Each turn writes the cells of the segment at `at`, and what is left gives the rest of the store and of the answer.
+use Prim.Native.Nat.{ℕ, _≤_, _-_, _+_}
+use mathlib.Core.List.{List, _++_, append-nil}
+use mathlib.Core.Path.{_≡_, refl, ap, _∙_}
+use native.Mathlib.Nat.{add-sub-cancel-left}
+use native.Mathlib.Omega.{arith}
+use lib.ListN.{take, length-take, drop-of-length-le, length, drop, length-drop}
+use lib.Seq.{length-take-le}
+use borrow.Author.Needs.{needs}
+use Rattle.seq.specs.Words.{zeros}
+use Rattle.legends.proofs.SegmentLaws.{Whole, six-at, end-at}
+use Rattle.legends.proofs.StoredLaws.{Storing, storing-start, storing-whole, storing-more, storing-end}
+use Rattle.legends.proofs.store_legends.Statement.{statement}
+use Rattle.legends.proofs.store_legends.Tie as tie
+
+abbrev Inv-loop : tie.InvT-loop
+Inv-loop legends₀ sent pitches table n found₀ at₀ legends found at = (n ≡ length sent) × Storing pitches table sent legends found at
+
+abbrev μ-loop : tie.MeasureT-loop
+μ-loop legends₀ sent pitches table n found₀ at₀ legends found at = n - at
+
+loop-holds : tie.Need-loop-holds Inv-loop μ-loop
+loop-holds c = (refl, storing-start _ _ _ _ (search needs) (search needs))
+
+there : (c : tie.In-loop Inv-loop μ-loop) → Whole (drop (c .before .loop .at) (c .before .before .before .before .before .args .sent .now))
+there c =
+    let l = c .before .loop in
+    storing-whole _ _ _ (l .legends) (l .found) (l .at) (search needs) (l .inv .1)
+
+end : (c : tie.After-segment-length Inv-loop μ-loop)
+    → c .before .before .loop .at + c .segment-length .result ≤ length (c .before .before .before .before .before .before .args .sent .now)
+end c = end-at _ (c .before .before .loop .at) (c .segment-length .result) (c .segment-length .ensures .0) (there (c .before))
+
+segment-length-requires : tie.Need-segment-length-requires Inv-loop μ-loop
+segment-length-requires c κs = six-at _ (c .before .loop .at) (there c)
+
+part-store-segment-end : tie.Need-part-store-segment-end Inv-loop μ-loop
+part-store-segment-end c = omega (arith, end c)
+
+part-store-segment-end-2 : tie.Need-part-store-segment-end-2 Inv-loop μ-loop
+part-store-segment-end-2 c = omega (arith, end (c .before))
+
+store-segment-requires : tie.Need-store-segment-requires Inv-loop μ-loop
+store-segment-requires c κs =
+    let b = c .before .before in
+    simp (add-sub-cancel-left, length-take, length-drop) ((omega (arith, end b), omega (arith, end b, b .segment-length .ensures .0)), search needs)
+
+loop-less : tie.Need-loop-less Inv-loop μ-loop
+loop-less c =
+    let b = c .before .before .before .before .before in
+    omega (arith, end b, b .segment-length .ensures .0)
+
+loop-again : tie.Need-loop-again Inv-loop μ-loop
+loop-again c =
+    let b = c .before .before .before .before .before in
+    let l = b .before .before .loop in
+    let m = b .segment-length in
+    let e = simp add-sub-cancel-left at (c .before .before .store-segment .ensures) in
+    let more = storing-more _ _ _ (l .legends) (l .found) (l .at) (search needs) (l .inv .1) (search needs) (m .result) (m .ensures .0) in
+    (refl, simp add-sub-cancel-left (more _ _ (e .0) (e .1)))
+
+returns : tie.Need-returns Inv-loop μ-loop
+returns c =
+    let l = c .before .before .before .before .before .loop in
+    let n = length (c .before .before .before .before .before .before .before .before .before .args .sent .now) in
+    let q = drop n (l .legends) in
+    let k : length q ≡ 8192 - n = rw length-drop (search needs) in
+    let f = c .before .before .fill in
+    let y : f .last .0 ≡ zeros (8192 - n) = f .ensures ∙ ap zeros (length-take-le (8192 - n) q (omega (arith, k))) in
+    let none = drop-of-length-le q {i = 8192 - n} (omega (arith, k)) in
+    let z = storing-end _ _ _ (l .legends) (l .found) (l .at) (search needs) (search needs) (l .inv .1) in
+    ((λ i. take n (l .legends) ++ (y i ++ none i)) ∙ ap (λ (r : List ℕ). take n (l .legends) ++ r) (append-nil (zeros (8192 - n))) ∙ z .0, z .1)
+
+pub store-legends-spec : {M : Type 1} → statement M
+store-legends-spec =
+    tie.close
+    (tie.spec
+    Inv-loop
+    μ-loop
+    loop-holds
+    segment-length-requires
+    (λ c. search needs)
+    (λ c. search needs)
+    (λ c. search needs)
+    part-store-segment-end
+    (λ c. search needs)
+    (λ c. search needs)
+    part-store-segment-end-2
+    store-segment-requires
+    loop-less
+    loop-again
+    (λ c. search needs)
+    (λ c. search needs)
+    (λ c. search needs)
+    (λ c κs. search needs)
+    (λ c. search needs)
+    returns)

@@ -1,0 +1,133 @@
+// Composing a copy: the page's lines, with the segments of the legends over them in their order.
+use crate::segment_length;
+ghost use mathlib.Core.Path.{_≡_};
+ghost use mathlib.Core.Bool.{true, false};
+ghost use mathlib.Core.List.{[], _∷_, _++_, map};
+ghost use Prim.Native.Nat.{_+_, _*_, _-_, _≤_};
+ghost use lib.ListN.{length, getD, drop};
+ghost use Rattle.line.specs.Line.{lineBytes};
+ghost use Rattle.legends.specs.Legends.{segmentOf, segmentLength, badHead, storedSegments, legendsOk, copyFrom, composed};
+
+// Ten lines through a local block: nothing can overlap, so the two copies become one move.
+fn move_block(to: &mut [u8], from: &[u8])
+    requires { ⌜ length (now to) ≡ 2040 ⌝ }
+    requires { ⌜ length (now from) ≡ 2040 ⌝ }
+    ensures { λ _. ⌜ now (to .exit) ≡ now (from .entry) ⌝ }
+{
+    let mut block = [0u8; 2040];
+    seq::copy_all(&mut block, from);
+    seq::copy_all(to, &block);
+}
+
+fn copy_lines(to: &mut [u8], from: &[u8])
+    requires { ⌜ length (now to) ≡ length (now from) ⌝ }
+    ensures { λ _. ⌜ now (to .exit) ≡ now (from .entry) ⌝ }
+{
+    let n = from.len();
+    let mut at = 0;
+    while 2040 <= n - at {
+        let end = at + 2040;
+        move_block(&mut to[at..end], &from[at..end]);
+        at = end;
+    }
+    seq::copy_all(&mut to[at..n], &from[at..n]);
+}
+
+// The text of the segment at a place, as a part of the lent legends.
+pub fn text(legends: &[u8], at: usize) -> &[u8]
+    requires { ⌜ at + 6 + getD (now legends) (at + 5) 0 ≤ length (now legends) ⌝ }
+    ensures { λ r. ⌜ now r ≡ segmentOf (drop at (now (legends .entry))) .text ⌝ }
+{
+    let start = at + 6;
+    let end = start + seq::wide(legends[at + 5]);
+    &legends[start..end]
+}
+
+// Lays a text into the rows before `end` from `row` on, in each from a place on, all counted from 0: what a segment of copy 0 alone shows.
+fn lay(out: &mut [u8], text: &[u8], row: usize, end: usize, place: usize)
+    requires { ⌜ lineBytes * end ≤ length (now out) ⌝ }
+    requires { ⌜ place + length (now text) ≤ 204 ⌝ }
+    ensures { λ _. ⌜ now (out .exit) ≡ copyFrom (record {
+      firstCopy = 0;
+      copies = 1;
+      firstLine = row + 1;
+      lines = end - row;
+      firstPosition = place + 1;
+      positions = length (now (text .entry));
+      text = now (text .entry);
+    } ∷ []) 0 0 (now (out .entry)) ⌝ }
+{
+    let n = text.len();
+    let mut i = row;
+    while i < end {
+        let at = i * 204 + place;
+        let past = at + n;
+        seq::copy_all(&mut out[at..past], text);
+        i += 1;
+    }
+}
+
+// Paints the segment at a place over the lines of a copy.
+fn paint(out: &mut [u8], legends: &[u8], at: usize, number: usize, lines: usize)
+    requires { ⌜ at + segmentLength (drop at (now legends)) ≤ length (now legends) ⌝ }
+    requires { ⌜ badHead (drop at (now legends)) ≡ false ⌝ }
+    requires { ⌜ length (now out) ≡ lineBytes * lines ⌝ }
+    ensures { λ _. ⌜ now (out .exit) ≡ copyFrom (segmentOf (drop at (now (legends .entry))) ∷ []) number 0 (now (out .entry)) ⌝ }
+{
+    let first = seq::wide(legends[at]);
+    let copies = seq::wide(legends[at + 1]);
+    if number < first {
+        return;
+    }
+    if first + copies <= number {
+        return;
+    }
+    let row = seq::wide(legends[at + 2]) - 1;
+    let end = seq::least(row + seq::wide(legends[at + 3]), lines);
+    let place = seq::wide(legends[at + 4]) - 1;
+    lay(out, text(legends, at), row, end, place);
+}
+
+fn paint_all(out: &mut [u8], legends: &[u8], number: usize, lines: usize)
+    requires { ⌜ legendsOk (now legends) ≡ true ⌝ }
+    requires { ⌜ length (now out) ≡ lineBytes * lines ⌝ }
+    ensures { λ _. ⌜ now (out .exit) ≡ copyFrom (map segmentOf (storedSegments (now (legends .entry)))) number 0 (now (out .entry)) ⌝ }
+{
+    let mut at = 0;
+    while at < legends.len() {
+        if legends[at] == 0 {
+            return;
+        }
+        paint(out, legends, at, number, lines);
+        at += segment_length(legends, at);
+    }
+}
+
+fn compose_in(out: &mut [u8], page: &[u8], legends: &[u8], number: usize, lines: usize)
+    requires { ⌜ legendsOk (now legends) ≡ true ⌝ }
+    requires { ⌜ length (now page) ≡ lineBytes * lines ⌝ }
+    requires { ⌜ length (now out) ≡ lineBytes * lines ⌝ }
+    ensures { λ _. ⌜ now (out .exit) ≡ copyFrom (map segmentOf (storedSegments (now (legends .entry)))) number 0 (now (page .entry)) ⌝ }
+{
+    copy_lines(out, page);
+    paint_all(out, legends, number, lines);
+}
+
+// The composed copy with this number into the output; bytes after its lines keep their values.
+pub fn compose(out: &mut [u8], page: &[u8], legends: &[u8], number: u16, lines: u8)
+    requires { ⌜ legendsOk (now legends) ≡ true ⌝ }
+    requires { ⌜ lineBytes * lines ≤ length (now page) ⌝ }
+    requires { ⌜ lineBytes * lines ≤ length (now out) ⌝ }
+    ensures { λ _. ⌜ now (out .exit)
+        ≡ composed (now (page .entry)) (now (legends .entry)) lines number ++ drop (lineBytes * lines) (now (out .entry)) ⌝ }
+{
+    let count = seq::wide(lines);
+    let end = 204 * count;
+    compose_in(
+        &mut out[0..end],
+        &page[0..end],
+        legends,
+        number as usize,
+        count,
+    );
+}

@@ -1,0 +1,123 @@
+// Document 01, "Copies and legends": legend records, their check, the check of stored legends, and the store of a load.
+pub mod compose;
+
+use numbers::Cause;
+use numbers::Checked;
+ghost use mathlib.Core.Path.{_≡_};
+ghost use mathlib.Core.Bool.{false};
+ghost use mathlib.Core.List.{map};
+ghost use Prim.Native.Nat.{_+_, _≤_};
+ghost use lib.ListN.{length, drop};
+ghost use Rattle.seq.specs.Words.{firstOr, joined};
+ghost use Rattle.numbers.specs.Numbers.{isSound};
+ghost use Rattle.numbers.specs.declared.Checked.the-variants.{Sound};
+ghost use Rattle.line.specs.Line.{translated, anyUnprintable};
+ghost use Rattle.legends.specs.Legends.{segmentLength, badHead, segmentTests, segments, legendCheck, legendsOk};
+ghost use Rattle.legends.specs.Legends.{retext, storedLegends, legendText};
+
+fn bad_head(s: &[u8]) -> bool
+    requires { ⌜ 6 ≤ length (now s) ⌝ }
+    ensures { λ r. ⌜ r ≡ badHead (now (s .entry)) ⌝ }
+{
+    let end = seq::wide(s[4]) + seq::wide(s[5]);
+    let zero = (s[0] == 0)
+        | ((s[1] == 0) | ((s[2] == 0) | ((s[3] == 0) | ((s[4] == 0) | (s[5] == 0)))));
+    zero | !((2 <= end) & (end <= 205))
+}
+
+// How many bytes the segment at a place of s has.
+pub fn segment_length(s: &[u8], at: usize) -> usize
+    requires { ⌜ at + 6 ≤ length (now s) ⌝ }
+    ensures { λ r. ⌜ (r ≡ segmentLength (drop at (now (s .entry)))) × (r ≤ 261) ⌝ }
+{
+    6 + seq::wide(s[at + 5])
+}
+
+// What the tests of the segment at the front of s find.
+fn segment_check(s: &[u8]) -> Checked
+    ensures { λ r. ⌜ r ≡ firstOr Sound (segmentTests (now (s .entry))) ⌝ }
+{
+    let n = s.len();
+    if n < 6 {
+        return Checked::Faulty(Cause::SegmentEnds);
+    }
+    if bad_head(s) {
+        return Checked::Faulty(Cause::SegmentFields);
+    }
+    if n < segment_length(s, 0) {
+        return Checked::Faulty(Cause::SegmentEnds);
+    }
+    Checked::Sound
+}
+
+// The place where the sound segments at the front of s end. A segment that begins with 00 is not sound, so stored legends end there too.
+fn sound_end(s: &[u8]) -> usize
+    ensures bound { λ r. ⌜ r ≤ length (now (s .entry)) ⌝ }
+    ensures stops { λ r. ⌜ isSound (firstOr Sound (segmentTests (drop r (now (s .entry))))) ≡ false ⌝ }
+    ensures checked { λ r. ⌜ firstOr Sound (joined (map segmentTests (segments (now (s .entry)))))
+        ≡ firstOr Sound (joined (map segmentTests (segments (drop r (now (s .entry)))))) ⌝ }
+    ensures stored { λ r. ⌜ legendsOk (now (s .entry)) ≡ legendsOk (drop r (now (s .entry))) ⌝ }
+{
+    let n = s.len();
+    let mut at = 0;
+    while segment_check(&s[at..n]).is_sound() {
+        at += segment_length(s, at);
+    }
+    at
+}
+
+pub fn legend_check(sent: &[u8]) -> Checked
+    requires { ⌜ length (now sent) ≤ 8192 ⌝ }
+    ensures { λ r. ⌜ r ≡ legendCheck (now (sent .entry)) ⌝ }
+{
+    let n = sent.len();
+    if n == 0 {
+        return Checked::Faulty(Cause::SegmentEnds);
+    }
+    let at = sound_end(sent);
+    if at == n {
+        return Checked::Sound;
+    }
+    segment_check(&sent[at..n])
+}
+
+pub fn legends_ok(legends: &[u8]) -> bool
+    requires { ⌜ length (now legends) ≡ 8192 ⌝ }
+    ensures { λ r. ⌜ r ≡ legendsOk (now (legends .entry)) ⌝ }
+{
+    let at = sound_end(legends);
+    seq::zero_from(legends, at)
+}
+
+// One segment of a load: its six bytes, and its text through the table. Says whether anything in the text was unprintable.
+fn store_segment(to: &mut [u8], from: &[u8], pitches: [u8; 4], table: &[u8]) -> bool
+    requires { ⌜ (length (now to) ≡ length (now from)) × (6 ≤ length (now from)) ⌝ }
+    requires { ⌜ length (now table) ≡ 256 ⌝ }
+    ensures to { λ _. ⌜ now (to .exit) ≡ retext (translated pitches (now (table .entry))) (now (from .entry)) ⌝ }
+    ensures found { λ r. ⌜ r ≡ anyUnprintable pitches (now (table .entry)) (drop 6 (now (from .entry))) ⌝ }
+{
+    let n = from.len();
+    seq::copy_all(&mut to[0..6], &from[0..6]);
+    line::translate::translate(&mut to[6..n], &from[6..n], pitches, table)
+}
+
+// All segments of a record that passed, and 00 after them. Says whether anything in their text was unprintable.
+pub fn store_legends(legends: &mut [u8], sent: &[u8], pitches: [u8; 4], table: &[u8]) -> bool
+    requires { ⌜ length (now legends) ≡ 8192 ⌝ }
+    requires { ⌜ length (now sent) ≤ 8192 ⌝ }
+    requires { ⌜ legendCheck (now sent) ≡ Sound ⌝ }
+    requires { ⌜ length (now table) ≡ 256 ⌝ }
+    ensures legends { λ _. ⌜ now (legends .exit) ≡ storedLegends (translated pitches (now (table .entry))) (now (sent .entry)) ⌝ }
+    ensures found { λ r. ⌜ r ≡ anyUnprintable pitches (now (table .entry)) (legendText (now (sent .entry))) ⌝ }
+{
+    let n = sent.len();
+    let mut found = false;
+    let mut at = 0;
+    while at < n {
+        let end = at + segment_length(sent, at);
+        found = found | store_segment(&mut legends[at..end], &sent[at..end], pitches, table);
+        at = end;
+    }
+    seq::fill(&mut legends[n..8192], 0);
+    found
+}

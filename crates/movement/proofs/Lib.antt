@@ -1,0 +1,2 @@
+pub mod MovementLaws
+pub mod WalkLaws
