@@ -1,6 +1,6 @@
 -- Contents that a printer can have, part by part; Start's and a reset's are such.
 use Prim.Native.Nat.{ℕ, _≤_}
-use mathlib.Core.Path.{_≡_, refl}
+use mathlib.Core.Path.{_≡_, refl, ap}
 use mathlib.Core.Bool.{Bool, true}
 use mathlib.Core.List.{List}
 use lib.ListN.{length, length-replicate}
@@ -12,7 +12,8 @@ use Rattle.numbers.specs.declared.Checked.the-variants.{Sound}
 use Rattle.numbers.specs.Numbers.{isSound}
 use Rattle.numbers.proofs.Laws.{sound-is}
 use Rattle.form.specs.declared.Forms.{Forms}
-use Rattle.form.specs.Form.{formLengths, formOk, fcbCheck, printable, startFcb, fcbNow, formsOf, formsInRange}
+use Rattle.form.specs.declared.Layout.{Layout}
+use Rattle.form.specs.Form.{formLengths, formOk, fcbCheck, layoutOf, printable, startFcb, fcbNow, formsOf, formsInRange}
 use Rattle.form.proofs.FormLaws.{form-listed, fcb-fits, some-line, start-sound}
 use Rattle.line.specs.Line.{pageSize, tableSize, startSlots, slotsInRange}
 use Rattle.line.proofs.LineLaws.{length-startTables}
@@ -22,7 +23,8 @@ use Rattle.legends.specs.Legends.{legendSize, legendsOk, noLegends}
 use Rattle.legends.proofs.LegendLaws.{none-ok}
 use Rattle.calls.specs.declared.Fixed.{Fixed}
 use Rattle.calls.specs.declared.Sheet.{Sheet}
-use Rattle.calls.specs.Core.{Stores, Core, sizesOk, linesNow, P}
+use Rattle.calls.specs.declared.State.{State}
+use Rattle.calls.specs.Core.{Stores, Core, sizesOk, linesNow, P, laidOut}
 use Rattle.calls.specs.Contents.{lineOk, rangesOk, dueOk, markOk, coreOk}
 use Rattle.calls.specs.Reset.{blankSheet, noCells, resetState, resetStores}
 
@@ -151,3 +153,8 @@ module _ (f : Fixed) (blocked : Bool) (page : List ℕ) (e : FixedGood f) (size 
         sheet = blank-good _ 1 (lit≤ tt) (forms-line (f .length) (startFcb (f .length)) l (start-sound (f .length) l));
         legends = none-ok;
       }
+
+-- The printable lines of a form that is laid out are P.
+pub form-lines : (s : State) (w : Layout) → w ≡ laidOut s → w .lines ≡ P s
+unfolding linesNow layoutOf
+form-lines s w e = ap (λ (v : Layout). v .lines) e

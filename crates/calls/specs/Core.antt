@@ -7,7 +7,8 @@ use lib.Dec.{eqb}
 use Rattle.seq.specs.Words.{every}
 use Rattle.numbers.specs.declared.Sense.{Sense}
 use Rattle.form.specs.declared.Forms.{Forms}
-use Rattle.form.specs.Form.{fcbNow, printable}
+use Rattle.form.specs.declared.Layout.{Layout}
+use Rattle.form.specs.Form.{fcbNow, printable, layoutOf}
 use Rattle.line.specs.declared.Slots.{Slots}
 use Rattle.line.specs.Line.{pageSize, tableSize}
 use Rattle.copies.specs.declared.Copies.{Copies}
@@ -20,6 +21,9 @@ pub record Stores : Type 0 where
   pub page : List ℕ
   pub legends : List ℕ
   pub tables : List ℕ
+
+abbrev pub storesOf : List ℕ → List ℕ → List ℕ → Stores
+storesOf page legends tables = record { page = page; legends = legends; tables = tables }
 
 unfoldable pub sizesOk : Stores → Bool
 sizesOk m = every (eqb (length (m .page)) pageSize ∷ eqb (length (m .legends)) legendSize ∷ eqb (length (m .tables)) tableSize ∷ [])
@@ -67,6 +71,10 @@ linesNow s = printable (s .fixed .length) (fcbNow (s .forms))
 
 abbrev pub P : State → ℕ
 P s = length (linesNow s)
+
+-- The form of a state, laid out: what the checks ask of it, and where its printable lines stand.
+abbrev pub laidOut : State → Layout
+laidOut s = layoutOf (s .fixed .length) (fcbNow (s .forms))
 
 -- Movement: a started page has the form past line 1, or something written on it, which at line 1 can only be line 1 itself.
 unfoldable pub started : Sheet → Bool

@@ -1,8 +1,21 @@
 // Document 01, "Calls", "Commands", "Reset and sense": what a printer holds, and what it is told to do.
 use copies::Copies;
 use form::Forms;
-use movement::Motion;
 use line::Slots;
+use movement::Motion;
+ghost use mathlib.Core.Path.{_≡_};
+ghost use Rattle.calls.specs.Core.{started};
+
+// The sizes of the lent stores, of Sense's reply, and of a line.
+pub const PAGE_BYTES: usize = 26928;
+
+pub const LEGEND_BYTES: usize = 8192;
+
+pub const TABLE_BYTES: usize = 1024;
+
+pub const SENSE_BYTES: usize = 24;
+
+pub const LINE_CELLS: usize = 204;
 
 // What Start fixes: the form length in 24ths of an inch, and the pitch of each module, 0 if it is not fitted.
 pub struct Fixed {
@@ -54,4 +67,10 @@ pub enum Load {
     CopyModification,
     OverlaySequence,
     CopyNumber,
+}
+
+pub fn is_started(sheet: Sheet) -> bool
+    ensures { λ r. ⌜ r ≡ started sheet ⌝ }
+{
+    (sheet.line != 1) | sheet.written
 }

@@ -1,6 +1,6 @@
 -- What an accepted call's methods may count on, from the contents that were found good.
 use Prim.Native.Nat.{_≤_}
-use mathlib.Core.Path.{_≡_, refl, ap}
+use mathlib.Core.Path.{_≡_, refl}
 use mathlib.Core.Bool.{true}
 use native.Mathlib.Omega.{arith}
 use lib.ListN.{length, length-take}
@@ -12,11 +12,10 @@ use Rattle.form.specs.Form.{fcbNow, layoutOf, formsInRange}
 use Rattle.form.proofs.FormLaws.{form-listed, few-lines}
 use Rattle.form.proofs.LayoutLaws.{layout-fits}
 use Rattle.line.specs.Line.{slotsInRange}
-use Rattle.calls.specs.declared.State.{State}
-use Rattle.calls.specs.Core.{Core, linesNow, P}
+use Rattle.calls.specs.Core.{Core, linesNow, laidOut}
 use Rattle.calls.specs.Contents.{coreOk}
 use Rattle.calls.proofs.Good.{good}
-use Rattle.printer.specs.Whole.{laidOut, Ready}
+use Rattle.actions.specs.Whole.{Ready}
 
 kept-short : (f : Forms) → formsInRange f ≡ true → length (fcbNow f) ≤ 144
 unfolding formsInRange
@@ -39,8 +38,3 @@ ready k w e h =
       high = g .sheet .high;
       slot = leb-true _ 3 (every-at 1 _ (g .slots));
     })
-
--- its printable lines are P
-pub form-lines : (s : State) (w : Layout) → w ≡ laidOut s → w .lines ≡ P s
-unfolding linesNow layoutOf
-form-lines s w e = ap (λ (v : Layout). v .lines) e

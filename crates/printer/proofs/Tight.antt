@@ -7,9 +7,9 @@ use Rattle.calls.specs.Core.{Stores, World}
 use Rattle.calls.specs.Calls.{Call, command, compose, release, Outcome, step}
 use Rattle.calls.specs.Start.{startOutcome}
 use Rattle.calls.specs.Lists.{worldAfter}
-use Rattle.printer.specs.declared.Printer.{Printer}
-use Rattle.printer.specs.declared.Step.{Step}
-use Rattle.printer.specs.Whole.{worldOf, outcome}
+use Rattle.actions.specs.declared.Printer.{Printer}
+use Rattle.actions.specs.declared.Step.{Step}
+use Rattle.actions.specs.Whole.{worldOf, outcome}
 
 -- All that a call hands back and leaves: state with answer, buffer, stores; and that an equation with a definition's outcome allows it.
 pub record Left : Type 0 where

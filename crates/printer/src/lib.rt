@@ -1,75 +1,140 @@
-// The printer by value, and the sizes that it is lent. Its four public calls stand with what they do: `start` in starting, `command` in
-// commands, `compose` and `release` in pages. Each answers for every state, slice and number: it asks nothing of its caller, and its contract is
-// one equation that fixes the answer, the printer and every lent byte.
-mod actions;
-mod commands;
-mod contents;
-mod controls;
-mod loads;
-mod pages;
-mod refusals;
-mod starting;
-
-use calls::Fixed;
-use calls::Sheet;
-use calls::State;
-use copies::Copies;
-use form::Forms;
-use line::Slots;
+// The four calls on a printer by value. Each answers for every state, slice and number: it asks nothing of its caller, and its contract is one
+// equation that fixes the answer, the printer and every lent byte.
+use actions::Printer;
+use actions::Step;
+use calls::Command;
+use form::Layout;
 use numbers::Answer;
-use numbers::Sense;
+use numbers::Refusal;
+ghost use mathlib.Core.Path.{_≡_};
+ghost use mathlib.Core.List.{[], _∷_};
+ghost use Rattle.seq.specs.Words.{firstOr};
+ghost use Rattle.numbers.specs.declared.Refusal.the-variants.{Accepted};
+ghost use Rattle.calls.specs.Core.{storesOf, laidOut};
+ghost use Rattle.calls.specs.Effects.{doCommand};
+ghost use Rattle.calls.specs.Calls.{command, compose, release, commandTests, outcomeOf, step};
+ghost use Rattle.calls.specs.Start.{startOutcome};
+ghost use Rattle.actions.specs.Whole.{coreOf, worldOf, outcome};
 
-pub struct Printer {
-    pub state: State,
-    pub sense: Sense,
-}
-
-// What a call hands back: the state beside the answer.
-pub struct Step {
-    pub printer: Printer,
-    pub answer: Answer,
-}
-
-impl Printer {
-    // The sizes of the lent stores, of Sense's reply, and of a line.
-    pub const PAGE_BYTES: usize = 26928;
-
-    pub const LEGEND_BYTES: usize = 8192;
-
-    pub const TABLE_BYTES: usize = 1024;
-
-    pub const SENSE_BYTES: usize = 24;
-
-    pub const LINE_CELLS: usize = 204;
-
-    // What a refused Start hands back: all zeros, which no other call takes.
-    pub const NONE: Printer = Printer {
-        state: State {
-            fixed: Fixed {
-                length: 0,
-                pitches: [0; 4],
-            },
-            blocked: false,
-            forms: Forms {
-                fcb: [0; 144],
-                count: 0,
-            },
-            slots: Slots {
-                loaded: [false; 4],
-                selected: 0,
-            },
-            copies: Copies {
-                pairs: [0; 16],
-                count: 0,
-                reference: 0,
-            },
-            sheet: Sheet {
-                line: 0,
-                written: false,
-                waiting: false,
-                due: false,
-            },
+pub fn start(
+    form: u32,
+    p0: u32,
+    p1: u32,
+    p2: u32,
+    p3: u32,
+    page: &mut [u8],
+    legends: &mut [u8],
+    tables: &mut [u8],
+) -> Step
+    ensures { λ r. ⌜ outcome r [] (storesOf (now (page .exit)) (now (legends .exit)) (now (tables .exit)))
+        ≡ startOutcome form (p0 ∷ p1 ∷ p2 ∷ p3 ∷ []) (storesOf (now (page .entry)) (now (legends .entry)) (now (tables .entry))) ⌝ }
+{
+    let refusal = order::refusals::start_refusal(form, p0, p1, p2, p3, page, legends, tables);
+    if refusal.is_accepted() {
+        return Printer::begin(form, p0, p1, p2, p3, page, legends, tables);
+    }
+    Step {
+        printer: Printer::NONE,
+        answer: Answer {
+            refusal: refusal,
+            status: 0,
+            ready: false,
+            lines: 0,
+            copy: 0,
+            mark: 0,
         },
-        sense: Sense::CLEAR,
-    };
+    }
+}
+
+// An accepted command, a method each.
+fn perform(
+    p: Printer,
+    form: Layout,
+    command: Command,
+    sent: &[u8],
+    reply: &mut [u8],
+    page: &mut [u8],
+    legends: &mut [u8],
+    tables: &mut [u8],
+) -> Step
+    requires { ⌜ form ≡ laidOut (p .state) ⌝ }
+    requires { ⌜ firstOr Accepted (commandTests (coreOf p (storesOf (now page) (now legends) (now tables))) command (now sent) (now reply)) ≡ Accepted ⌝ }
+    ensures { λ r. ⌜ outcome r (now (reply .exit)) (storesOf (now (page .exit)) (now (legends .exit)) (now (tables .exit)))
+        ≡ outcomeOf (p .sense) (now (reply .entry))
+        (doCommand (coreOf p (storesOf (now (page .entry)) (now (legends .entry)) (now (tables .entry)))) command (now (sent .entry))) ⌝ }
+{
+    match command {
+        Command::Write(motion) => p.write(form, motion, sent, page, tables),
+        Command::Move(motion) => p.move_on(form, motion),
+        Command::Controls(control) => p.control(control, reply, legends, tables),
+        Command::Loads(load) => p.load(load, sent, legends, tables),
+        Command::Unlisted => p.refuse(Refusal::NotListed, 0),
+    }
+}
+
+pub fn command(
+    p: Printer,
+    byte: u8,
+    sent: &[u8],
+    reply: &mut [u8],
+    page: &mut [u8],
+    legends: &mut [u8],
+    tables: &mut [u8],
+) -> Step
+    ensures { λ r. ⌜ outcome r (now (reply .exit)) (storesOf (now (page .exit)) (now (legends .exit)) (now (tables .exit)))
+        ≡ step (worldOf p (storesOf (now (page .entry)) (now (legends .entry)) (now (tables .entry))))
+        (command byte (now (sent .entry)) (now (reply .entry))) ⌝ }
+{
+    let state = p.state;
+    let form = order::contents::layout(state);
+    let command = order::commands::decode(byte);
+    let refusal = order::refusals::command_refusal(
+        state,
+        form,
+        command,
+        sent,
+        reply,
+        page,
+        legends,
+        tables,
+    );
+    if refusal.is_accepted() {
+        return perform(p, form, command, sent, reply, page, legends, tables);
+    }
+    p.refuse(refusal, order::commands::shown_count(sent.len()))
+}
+
+// The copy with this index, from 1, of the page that waits.
+pub fn compose(
+    p: Printer,
+    copy: u32,
+    out: &mut [u8],
+    page: &[u8],
+    legends: &[u8],
+    tables: &[u8],
+) -> Step
+    ensures { λ r. ⌜ (let m = storesOf (now (page .entry)) (now (legends .entry)) (now (tables .entry)) in
+        outcome r (now (out .exit)) m ≡ step (worldOf p m) (compose copy (now (out .entry)))) ⌝ }
+{
+    let state = p.state;
+    let form = order::contents::layout(state);
+    let refusal = order::refusals::compose_refusal(state, form, copy, out, page, legends, tables);
+    if refusal.is_accepted() {
+        return p.print_copy(form, copy as u16, out, page, legends);
+    }
+    p.refuse(refusal, 0)
+}
+
+// The page that waits is done with.
+pub fn release(p: Printer, page: &mut [u8], legends: &mut [u8], tables: &mut [u8]) -> Step
+    ensures { λ r. ⌜ outcome r [] (storesOf (now (page .exit)) (now (legends .exit)) (now (tables .exit)))
+        ≡ step (worldOf p (storesOf (now (page .entry)) (now (legends .entry)) (now (tables .entry)))) release ⌝ }
+{
+    let state = p.state;
+    let form = order::contents::layout(state);
+    let refusal = order::refusals::release_refusal(state, form, page, legends, tables);
+    if refusal.is_accepted() {
+        return p.empty_page(page, legends, tables);
+    }
+    p.refuse(refusal, 0)
 }

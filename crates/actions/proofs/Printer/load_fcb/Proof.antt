@@ -1,0 +1,12 @@
+-- The forms stored, the form at line 1, then nothing moved; what is reported does not depend on the line.
+use Rattle.movement.specs.Movement.{still}
+use Rattle.line.specs.Line.{noCauses}
+use Rattle.calls.specs.Effects.{done, atLine1, loaded, loadCauses, doLoad}
+use borrow.Author.Needs.{needs}
+use Rattle.actions.proofs.Printer.load_fcb.Statement.{statement}
+use Rattle.actions.proofs.Printer.load_fcb.Tie as tie
+
+pub load-fcb-spec : {M : Type 1} → statement M
+unfolding doLoad loaded loadCauses atLine1 noCauses done still
+load-fcb-spec = tie.close (tie.spec (λ c κs. search needs) (λ c κs. search needs) (λ c. λ m b. rw
+    (← c .before .before .before .load-forms .ensures) (c .stand .ensures m b)))

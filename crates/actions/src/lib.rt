@@ -1,0 +1,60 @@
+// What accepted calls do: the printer by value, with a method for each command and for a copy, a release and a start. What refuses a call comes
+// before, in `order`.
+mod actions;
+mod controls;
+mod loads;
+mod pages;
+mod starting;
+
+use calls::Fixed;
+use calls::Sheet;
+use calls::State;
+use copies::Copies;
+use form::Forms;
+use line::Slots;
+use numbers::Answer;
+use numbers::Sense;
+
+pub struct Printer {
+    pub state: State,
+    pub sense: Sense,
+}
+
+// What a call hands back: the state beside the answer.
+pub struct Step {
+    pub printer: Printer,
+    pub answer: Answer,
+}
+
+impl Printer {
+    // What a refused Start hands back: all zeros, which no other call takes.
+    pub const NONE: Printer = Printer {
+        state: State {
+            fixed: Fixed {
+                length: 0,
+                pitches: [0; 4],
+            },
+            blocked: false,
+            forms: Forms {
+                fcb: [0; 144],
+                count: 0,
+            },
+            slots: Slots {
+                loaded: [false; 4],
+                selected: 0,
+            },
+            copies: Copies {
+                pairs: [0; 16],
+                count: 0,
+                reference: 0,
+            },
+            sheet: Sheet {
+                line: 0,
+                written: false,
+                waiting: false,
+                due: false,
+            },
+        },
+        sense: Sense::CLEAR,
+    };
+}

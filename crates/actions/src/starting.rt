@@ -1,0 +1,97 @@
+// What Start and a reset leave: the starting FCB and the starting state.
+use crate::Printer;
+use crate::Step;
+use calls::Fixed;
+use calls::Sheet;
+use calls::State;
+use copies::Copies;
+use form::Forms;
+use line::Slots;
+use numbers::Answer;
+use numbers::Sense;
+ghost use mathlib.Core.Path.{_≡_};
+ghost use mathlib.Core.Bool.{true};
+ghost use mathlib.Core.List.{[], _∷_};
+ghost use Rattle.seq.specs.Words.{listed};
+ghost use Rattle.numbers.specs.declared.Refusal.the-variants.{Accepted};
+ghost use Rattle.numbers.specs.Numbers.{only};
+ghost use Rattle.form.specs.Form.{formLengths, startFcb, formsOf};
+ghost use Rattle.calls.specs.Reset.{resetState};
+ghost use Rattle.calls.specs.Start.{startWorld, startOutcome};
+ghost use Rattle.calls.proofs.Accepted.{Startable};
+ghost use Rattle.calls.specs.Core.{storesOf};
+ghost use Rattle.actions.specs.Whole.{outcome};
+
+impl Printer {
+    // The starting FCB of a listed form: 6 lines per inch, with channel 1 at line 1.
+    fn start_forms(length: u16) -> Forms
+        requires { ⌜ listed formLengths length ≡ true ⌝ }
+        ensures { λ r. ⌜ r ≡ formsOf (startFcb length) ⌝ }
+    {
+        let mut fcb = [0u8; 144];
+        fcb[3] = 1;
+        Forms {
+            fcb: fcb,
+            count: (length / 4) as u8,
+        }
+    }
+
+    // The starting state on a listed form, which a reset puts back; the check switch stays.
+    pub(crate) fn start_state(fixed: Fixed, blocked: bool) -> State
+        requires { ⌜ listed formLengths (fixed .length) ≡ true ⌝ }
+        ensures { λ r. ⌜ r ≡ resetState fixed blocked ⌝ }
+    {
+        let length = fixed.length;
+        State {
+            fixed: fixed,
+            blocked: blocked,
+            forms: Printer::start_forms(length),
+            slots: Slots {
+                loaded: [true, false, false, false],
+                selected: 0,
+            },
+            copies: Copies {
+                pairs: [1, 0, 0, 0, 0, 0, 0, 0, 0, 0, 0, 0, 0, 0, 0, 0],
+                count: 2,
+                reference: 1,
+            },
+            sheet: Sheet {
+                line: 1,
+                written: false,
+                waiting: false,
+                due: false,
+            },
+        }
+    }
+
+    // All as a reset leaves it, with the page empty, the checks allowed and the sense clear.
+    pub fn begin(
+        form: u32,
+        p0: u32,
+        p1: u32,
+        p2: u32,
+        p3: u32,
+        page: &mut [u8],
+        legends: &mut [u8],
+        tables: &mut [u8],
+    ) -> Step
+        requires { ⌜ Startable form (p0 ∷ p1 ∷ p2 ∷ p3 ∷ []) (storesOf (now page) (now legends) (now tables)) ⌝ }
+        ensures { λ r. ⌜ outcome r [] (storesOf (now (page .exit)) (now (legends .exit)) (now (tables .exit)))
+            ≡ record { answer = only Accepted 0; buffer = []; world = startWorld form (p0 ∷ p1 ∷ p2 ∷ p3 ∷ []) } ⌝ }
+    {
+        let fixed = Fixed {
+            length: form as u16,
+            pitches: [p0 as u8, p1 as u8, p2 as u8, p3 as u8],
+        };
+        seq::fill(page, 0);
+        seq::fill(legends, 0);
+        line::tables::start_tables(tables);
+        Step {
+            printer: Printer {
+                state: Printer::start_state(fixed, false),
+                sense: Sense::CLEAR,
+            },
+            answer: Answer::DONE,
+        }
+    }
+}

@@ -1,0 +1,137 @@
+// Document 01, "Commands": a byte decoded, and what other sections ask of a command.
+use calls::Command;
+use calls::Control;
+use calls::Load;
+use movement::Motion;
+ghost use mathlib.Core.Path.{_≡_};
+ghost use mathlib.Core.Bool.{cond};
+ghost use lib.Dec.{leb};
+ghost use Rattle.calls.specs.Commands.{codes, lookUp, skips, decode, traitsOf, isUnlisted, isLoad};
+
+// A skip: 1nnnn and three low bits, nnnn from 1 to 12.
+fn is_skip(byte: u8, low: u8) -> bool
+    ensures { λ r. ⌜ r ≡ skips byte low ⌝ }
+{
+    let n = byte / 8 % 16;
+    (byte / 128 == 1) & (byte % 8 == low) & (1 <= n) & (n <= 12)
+}
+
+// The bytes that are listed one by one.
+fn look_up(byte: u8) -> Command
+    ensures { λ r. ⌜ r ≡ lookUp codes byte ⌝ }
+{
+    match byte {
+        0x01 => Command::Write(Motion::Space(0)),
+        0x09 => Command::Write(Motion::Space(1)),
+        0x11 => Command::Write(Motion::Space(2)),
+        0x19 => Command::Write(Motion::Space(3)),
+        0x0B => Command::Move(Motion::Space(1)),
+        0x13 => Command::Move(Motion::Space(2)),
+        0x1B => Command::Move(Motion::Space(3)),
+        0x03 => Command::Controls(Control::NoOp),
+        0x04 => Command::Controls(Control::SenseIo),
+        0x37 => Command::Controls(Control::Initialize),
+        0x87 => Command::Controls(Control::Clear),
+        0x73 => Command::Controls(Control::Block),
+        0x7B => Command::Controls(Control::Allow),
+        0x47 => Command::Controls(Control::Select(0)),
+        0x57 => Command::Controls(Control::Select(1)),
+        0x67 => Command::Controls(Control::Select(2)),
+        0x77 => Command::Controls(Control::Select(3)),
+        0x63 => Command::Loads(Load::Fcb),
+        0x83 => Command::Loads(Load::TranslateTable),
+        0x35 => Command::Loads(Load::CopyModification),
+        0x43 => Command::Loads(Load::OverlaySequence),
+        0x23 => Command::Loads(Load::CopyNumber),
+        _ => Command::Unlisted,
+    }
+}
+
+pub fn decode(byte: u8) -> Command
+    ensures { λ r. ⌜ r ≡ decode byte ⌝ }
+{
+    let channel = byte / 8 % 16;
+    if is_skip(byte, 1) {
+        return Command::Write(Motion::Skip(channel));
+    }
+    if is_skip(byte, 3) {
+        return Command::Move(Motion::Skip(channel));
+    }
+    look_up(byte)
+}
+
+// No-Op and Sense.
+pub fn is_quiet(command: Command) -> bool
+    ensures { λ r. ⌜ r ≡ traitsOf command .quiet ⌝ }
+{
+    match command {
+        Command::Write(motion) => false,
+        Command::Move(motion) => false,
+        Command::Controls(control) => match control {
+            Control::NoOp => true,
+            Control::SenseIo => true,
+            Control::Initialize => false,
+            Control::Clear => false,
+            Control::Block => false,
+            Control::Allow => false,
+            Control::Select(slot) => false,
+        },
+        Command::Loads(load) => false,
+        Command::Unlisted => false,
+    }
+}
+
+// Sense.
+pub fn replies(command: Command) -> bool
+    ensures { λ r. ⌜ r ≡ traitsOf command .replies ⌝ }
+{
+    match command {
+        Command::Write(motion) => false,
+        Command::Move(motion) => false,
+        Command::Controls(control) => match control {
+            Control::NoOp => false,
+            Control::SenseIo => true,
+            Control::Initialize => false,
+            Control::Clear => false,
+            Control::Block => false,
+            Control::Allow => false,
+            Control::Select(slot) => false,
+        },
+        Command::Loads(load) => false,
+        Command::Unlisted => false,
+    }
+}
+
+pub fn is_unlisted(command: Command) -> bool
+    ensures { λ r. ⌜ r ≡ isUnlisted command ⌝ }
+{
+    match command {
+        Command::Write(motion) => false,
+        Command::Move(motion) => false,
+        Command::Controls(control) => false,
+        Command::Loads(load) => false,
+        Command::Unlisted => true,
+    }
+}
+
+pub fn is_load(command: Command) -> bool
+    ensures { λ r. ⌜ r ≡ isLoad command ⌝ }
+{
+    match command {
+        Command::Write(motion) => false,
+        Command::Move(motion) => false,
+        Command::Controls(control) => false,
+        Command::Loads(load) => true,
+        Command::Unlisted => false,
+    }
+}
+
+// The byte count that a load check can show: no longer record comes so far.
+pub fn shown_count(n: usize) -> u16
+    ensures { λ r. ⌜ r ≡ cond (leb n 8192) n 0 ⌝ }
+{
+    if n <= 8192 {
+        return n as u16;
+    }
+    0
+}
