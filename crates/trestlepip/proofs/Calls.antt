@@ -5,20 +5,20 @@ use mathlib.Core.Bool.{Bool, true, false}
 use mathlib.Core.List.{List, [], _∷_}
 use lib.Dec.{eqb}
 use lib.ListN.{length}
-use Rattle.seq.specs.Words.{when, firstOr}
+use Rattle.seq.specs.Words.{when, firstOr, zeros}
 use Rattle.numbers.specs.declared.Sense.{Sense}
 use Rattle.numbers.specs.declared.Refusal.the-variants.{Accepted, NoPage, BadIndex, TooShort, BadStore}
 use Rattle.numbers.specs.Numbers.{rowOf, only, senseAfter}
 use Rattle.calls.specs.Core.{Stores, World}
 use Rattle.calls.specs.Effects.{Effect, refused}
 use Rattle.calls.specs.Calls.{Call, compose, doCompose, perform, lent, refusalOf, Outcome, step}
-use Rattle.calls.specs.Start.{startOutcome}
+use Rattle.calls.specs.Start.{startOutcome, noState, noPrinter}
 use Rattle.calls.proofs.Refused.{by-outcome}
-use Rattle.printer.specs.declared.Printer.{Printer}
-use Rattle.printer.specs.declared.Step.{Step}
-use Rattle.printer.specs.Whole.{worldOf, outcome}
-use Rattle.trestlepip.specs.State.{stateSize, bytesOf, printerOf, readable}
-use Rattle.trestlepip.specs.Packed.{packed}
+use Rattle.actions.specs.declared.Printer.{Printer}
+use Rattle.actions.specs.declared.Step.{Step}
+use Rattle.actions.specs.Whole.{worldOf, outcome}
+use Rattle.bytes.specs.State.{stateSize, bytesOf, printerOf, readable}
+use Rattle.bytes.specs.Packed.{packed}
 use Rattle.trestlepip.specs.Face.{printerIn, shown, called, callBytes, startBytes}
 
 -- What a call did, as the host finds it: its answer packed, its printer's bytes.
@@ -67,3 +67,8 @@ compose-keeps w n out =
 pub compose-printer : {p : Printer} {r : Step} {buffer : List ℕ} {m : Stores} (n : ℕ) (out : List ℕ)
     → outcome r buffer m ≡ step (worldOf p m) (compose n out) → r .printer ≡ p
 compose-printer {p = p} {m = m} n out e = ap (λ (o : Outcome). printerIn (o .world)) e ∙ ap printerIn (compose-keeps (worldOf p m) n out)
+
+-- A refused Start hands back bytes that are all zero.
+pub zeros-no : (m : Stores) → bytesOf (printerIn (noPrinter m)) ≡ zeros stateSize
+unfolding bytesOf noPrinter noState
+zeros-no m = refl

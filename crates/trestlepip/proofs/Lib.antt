@@ -1,6 +1,5 @@
-pub mod Round
 pub mod Calls
-pub mod Fields
+pub mod Tells
 pub mod Sized
 pub mod Follow
 pub mod Seen

@@ -9,10 +9,10 @@ use Rattle.numbers.specs.Numbers.{only}
 use Rattle.calls.specs.Core.{Stores, World}
 use Rattle.calls.specs.Calls.{Call, Outcome, lent, step}
 use Rattle.calls.specs.Start.{startOutcome}
-use Rattle.printer.specs.declared.Printer.{Printer}
-use Rattle.printer.specs.Whole.{worldOf}
-use Rattle.trestlepip.specs.State.{stateSize, bytesOf, printerOf, readable}
-use Rattle.trestlepip.specs.Packed.{packed}
+use Rattle.actions.specs.declared.Printer.{Printer}
+use Rattle.actions.specs.Whole.{worldOf}
+use Rattle.bytes.specs.State.{stateSize, bytesOf, printerOf, readable}
+use Rattle.bytes.specs.Packed.{packed}
 
 -- All that a call hands back and leaves: its packed answer, its buffer, the state's bytes and the stores.
 pub record Called : Type 0 where

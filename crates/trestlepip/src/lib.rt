@@ -7,7 +7,7 @@ use printer::Printer;
 ghost use mathlib.Core.Path.{_≡_};
 ghost use mathlib.Core.List.{[], _∷_};
 ghost use Rattle.calls.specs.Calls.{command, compose, release};
-ghost use Rattle.printer.specs.Whole.{storesOf};
+ghost use Rattle.calls.specs.Core.{storesOf};
 ghost use Rattle.trestlepip.specs.Face.{called, callBytes, startBytes};
 
 #[no_mangle]

@@ -3,8 +3,8 @@ use mathlib.Core.Path.{_≡_, sym, ap, _∙_}
 use mathlib.Core.Bool.{true}
 use native.Mathlib.Omega.{arith}
 use borrow.Author.Tests.{not-true, not-false}
-use Rattle.trestlepip.specs.State.{bytesOf, printerOf, readable}
-use Rattle.trestlepip.proofs.Round.{readable-size, back}
+use Rattle.bytes.specs.State.{bytesOf, printerOf, readable}
+use Rattle.bytes.proofs.Round.{readable-size, back}
 use Rattle.trestlepip.proofs.Calls.{read-so, unread-so, compose-printer}
 use borrow.Author.Needs.{needs}
 use Rattle.trestlepip.proofs.trestlepip_compose.Statement.{statement}

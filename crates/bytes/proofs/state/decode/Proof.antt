@@ -1,8 +1,8 @@
 -- The two arrays copied, and the rest gathered.
-use Rattle.trestlepip.specs.State.{printerOf}
+use Rattle.bytes.specs.State.{printerOf}
 use borrow.Author.Needs.{needs}
-use Rattle.trestlepip.proofs.state.decode.Statement.{statement}
-use Rattle.trestlepip.proofs.state.decode.Tie as tie
+use Rattle.bytes.proofs.state.decode.Statement.{statement}
+use Rattle.bytes.proofs.state.decode.Tie as tie
 
 pub decode-spec : {M : Type 1} → statement M
 unfolding printerOf

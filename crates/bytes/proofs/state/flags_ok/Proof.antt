@@ -1,8 +1,8 @@
 -- Each flag, in the order of its place.
 use mathlib.Core.Bool.{and-true}
 use borrow.Author.Needs.{needs}
-use Rattle.trestlepip.proofs.state.flags_ok.Statement.{statement}
-use Rattle.trestlepip.proofs.state.flags_ok.Tie as tie
+use Rattle.bytes.proofs.state.flags_ok.Statement.{statement}
+use Rattle.bytes.proofs.state.flags_ok.Tie as tie
 
 pub flags-ok-spec : {M : Type 1} → statement M
 flags-ok-spec =

@@ -1,8 +1,8 @@
 -- Its seven fields, each in its place.
-use Rattle.trestlepip.specs.Packed.{packed}
+use Rattle.bytes.specs.Packed.{packed}
 use borrow.Author.Needs.{needs}
-use Rattle.trestlepip.proofs.answer.pack.Statement.{statement}
-use Rattle.trestlepip.proofs.answer.pack.Tie as tie
+use Rattle.bytes.proofs.answer.pack.Statement.{statement}
+use Rattle.bytes.proofs.answer.pack.Tie as tie
 
 pub pack-spec : {M : Type 1} → statement M
 unfolding packed

@@ -6,16 +6,16 @@ use copies::Copies;
 use form::Forms;
 use line::Slots;
 use numbers::Sense;
-use printer::Printer;
+use actions::Printer;
 ghost use mathlib.Core.Path.{_≡_};
 ghost use Prim.Native.Nat.{_+_, _*_};
 ghost use mathlib.Core.List.{_++_};
 ghost use lib.ListN.{length};
 ghost use lib.Dec.{leb};
 ghost use Rattle.seq.specs.Words.{all};
-ghost use Rattle.trestlepip.specs.State.{smallBytes, bytesOf, byteAt, printerWith, printerOf, flagPlaces, readable};
+ghost use Rattle.bytes.specs.State.{smallBytes, bytesOf, byteAt, printerWith, printerOf, flagPlaces, readable};
 
-pub(crate) const STATE_BYTES: usize = 184;
+pub const STATE_BYTES: usize = 184;
 
 // Each flag is 0 or 1.
 fn flags_ok(s: &[u8]) -> bool
@@ -29,7 +29,7 @@ fn flags_ok(s: &[u8]) -> bool
 }
 
 // Whether bytes stand for a printer.
-pub(crate) fn is_readable(s: &[u8]) -> bool
+pub fn is_readable(s: &[u8]) -> bool
     ensures { λ r. ⌜ r ≡ readable (now (s .entry)) ⌝ }
 {
     if s.len() != STATE_BYTES {
@@ -93,7 +93,7 @@ fn gather(s: &[u8], pairs: [u8; 16], fcb: [u8; 144]) -> Printer
 }
 
 // The printer that bytes stand for.
-pub(crate) fn decode(s: &[u8]) -> Printer
+pub fn decode(s: &[u8]) -> Printer
     requires { ⌜ length (now s) ≡ 184 ⌝ }
     ensures { λ r. ⌜ r ≡ printerOf (now (s .entry)) ⌝ }
 {
@@ -151,7 +151,7 @@ fn lay(small: &[u8; 24], pairs: &[u8; 16], fcb: &[u8; 144], s: &mut [u8])
 }
 
 // The bytes of a printer, over all of s.
-pub(crate) fn encode(p: Printer, s: &mut [u8])
+pub fn encode(p: Printer, s: &mut [u8])
     requires { ⌜ length (now s) ≡ 184 ⌝ }
     ensures { λ _. ⌜ now (s .exit) ≡ bytesOf p ⌝ }
 {

@@ -8,7 +8,7 @@ use mir.Val.{boolByte}
 use Rattle.seq.specs.Words.{all, every}
 use Rattle.form.specs.Form.{fcbSize}
 use Rattle.copies.specs.Copies.{pairSize}
-use Rattle.printer.specs.declared.Printer.{Printer}
+use Rattle.actions.specs.declared.Printer.{Printer}
 
 abbrev pub stateSize : ℕ
 stateSize = 184

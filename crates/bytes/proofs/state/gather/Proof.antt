@@ -1,16 +1,12 @@
--- A case each; a load check's is its cause's own.
-use mathlib.Core.Path.{_∙_, sym, ap}
-use Rattle.trestlepip.specs.Packed.{causeNumber}
+-- Each field from its place.
 use borrow.Author.Needs.{needs}
-use Rattle.trestlepip.proofs.answer.cause_number.Statement.{statement}
-use Rattle.trestlepip.proofs.answer.cause_number.Tie as tie
+use Rattle.bytes.proofs.state.gather.Statement.{statement}
+use Rattle.bytes.proofs.state.gather.Tie as tie
 
-pub cause-number-spec : {M : Type 1} → statement M
-cause-number-spec =
+pub gather-spec : {M : Type 1} → statement M
+gather-spec =
     tie.close
     (tie.spec
-    (λ c. search needs)
-    (λ c. search needs)
     (λ c. search needs)
     (λ c. search needs)
     (λ c κs. search needs)
@@ -25,7 +21,6 @@ cause-number-spec =
     (λ c. search needs)
     (λ c. search needs)
     (λ c. search needs)
-    (λ c. c .number .ensures ∙ sym (ap causeNumber (c .before .before .refusal .given .1)))
     (λ c. search needs)
     (λ c. search needs)
     (λ c. search needs)
@@ -33,4 +28,8 @@ cause-number-spec =
     (λ c. search needs)
     (λ c. search needs)
     (λ c. search needs)
-    (λ c. search needs))
+    (λ c. search needs)
+    (λ c. search needs)
+    (λ c. search needs)
+    (λ c. search needs)
+    (λ c. rw (c .before .before .before .before .before .before .before .before .before .before .before .before .before .before .before .before .before .before .before .before .before .before .pair .ensures)))

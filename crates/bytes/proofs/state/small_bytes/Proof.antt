@@ -1,8 +1,8 @@
 -- Each field in its place: by computation.
 use mathlib.Core.Path.{refl}
 use borrow.Author.Needs.{needs}
-use Rattle.trestlepip.proofs.state.small_bytes.Statement.{statement}
-use Rattle.trestlepip.proofs.state.small_bytes.Tie as tie
+use Rattle.bytes.proofs.state.small_bytes.Statement.{statement}
+use Rattle.bytes.proofs.state.small_bytes.Tie as tie
 
 pub small-bytes-spec : {M : Type 1} → statement M
 small-bytes-spec =

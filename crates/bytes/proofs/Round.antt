@@ -10,14 +10,11 @@ use lib.Seq.{take-at, drop-at, take-all, drop-drop, length-take-le}
 use lib.Dec.{eqb, leb}
 use mir.Val.{boolByte}
 use borrow.Author.Tests.{eqb-true, eq-eqb, leb-true}
-use Rattle.seq.specs.Words.{all, listed, from, zeros}
+use Rattle.seq.specs.Words.{all, listed, from}
 use Rattle.seq.proofs.Laws.{every-at, every-of, finally, also, listed-all, spelled, four}
 use Rattle.calls.specs.declared.State.{State}
-use Rattle.calls.specs.Core.{Stores}
-use Rattle.calls.specs.Start.{noState, noPrinter}
-use Rattle.printer.specs.declared.Printer.{Printer}
-use Rattle.trestlepip.specs.State.{stateSize, bytesOf, printerOf, readable, flagPlaces, byteAt, flagAt}
-use Rattle.trestlepip.specs.Face.{printerIn}
+use Rattle.actions.specs.declared.Printer.{Printer}
+use Rattle.bytes.specs.State.{stateSize, bytesOf, printerOf, readable, flagPlaces, byteAt, flagAt}
 
 -- the arrays are as long as their types say: pitches, slots loaded, the overlay sequence's pairs, the FCB's bytes
 pub record Lengths (ps : List ℕ) (slots : List Bool) (qs f : List ℕ) : Type 0 where
@@ -141,8 +138,3 @@ back s h e =
 -- Two states that are different bytes are different printers.
 pub same-bytes : (s t : List ℕ) → byteAt s 1 < 256 → byteAt t 1 < 256 → readable s ≡ true → readable t ≡ true → printerOf s ≡ printerOf t → s ≡ t
 same-bytes s t h k d e p = sym (back s h d) ∙ ap bytesOf p ∙ back t k e
-
--- A refused Start hands back bytes that are all zero.
-pub zeros-no : (m : Stores) → bytesOf (printerIn (noPrinter m)) ≡ zeros stateSize
-unfolding bytesOf noPrinter noState
-zeros-no m = refl

@@ -1,5 +1,5 @@
--- The fields of a packed answer come back: none ever spills into another.
-use Prim.Native.Nat.{ℕ, zero, suc, _-_, _/_, _%_, _^_, _≤_, _<_}
+-- Every answer fits the fields of its packed number, so that what a C host takes out of them is what the call answered.
+use Prim.Native.Nat.{ℕ, zero, suc, _-_, _≤_, _<_}
 use mathlib.Core.Path.{_≡_, refl}
 use mathlib.Core.Bool.{Bool, true, false, cond, not, _&&_, _||_}
 use mathlib.Core.List.{List, [], _∷_}
@@ -7,15 +7,12 @@ use native.Mathlib.Omega.{arith}
 use lib.ListN.{length}
 use lib.Dec.{eqb, leb, ltb, lit≤}
 use borrow.Author.Tests.{ltb-true, ltb-false}
-use Rattle.seq.specs.Words.{any, bit}
+use Rattle.seq.specs.Words.{any}
 use Rattle.seq.proofs.Laws.{or-left, or-right, cond-has, passed}
 use Rattle.numbers.specs.declared.Answer.{Answer}
-use Rattle.numbers.specs.declared.Cause.{Cause}
-use Rattle.numbers.specs.declared.Cause.the-variants.{FcbChannel, FcbSpacing, FcbSum, FcbEdge, TableShort, SequencePairs, SequenceCounts, NumberRecord, SegmentEnds, SegmentFields}
 use Rattle.numbers.specs.declared.Checked.the-variants.{Sound}
-use Rattle.numbers.specs.declared.Refusal.{Refusal}
-use Rattle.numbers.specs.declared.Refusal.the-variants.{Accepted, NotListed, BadRecord, LoadCheck, PageWaiting, PageStarted, NoPage, BadIndex, TooShort, BadStore, BadForm, TwoPages}
-use Rattle.numbers.specs.Numbers.{causeOf, rowOf, numberOf, isAccepted, only}
+use Rattle.numbers.specs.declared.Refusal.the-variants.{Accepted, BadStore}
+use Rattle.numbers.specs.Numbers.{rowOf, isAccepted, only}
 use Rattle.numbers.proofs.Laws.{faulty, accepted-is}
 use Rattle.movement.specs.declared.Motion.{Motion}
 use Rattle.movement.specs.declared.Motion.the-variants.{Space, Skip}
@@ -40,97 +37,11 @@ use Rattle.calls.proofs.Good.{good}
 use Rattle.calls.proofs.Accepted.{taken, composable}
 use Rattle.calls.proofs.Refused.{by-outcome}
 use Rattle.calls.proofs.Answers.{Shape, sets, quiet, shape}
-use Rattle.printer.specs.Whole.{worldOf}
-use Rattle.trestlepip.specs.State.{stateSize, byteAt, printerOf, readable}
-use Rattle.trestlepip.specs.Packed.{causeNumber, packed}
+use Rattle.actions.specs.Whole.{worldOf}
+use Rattle.bytes.specs.State.{stateSize, byteAt, printerOf, readable}
+use Rattle.bytes.specs.Packed.{packed}
+use Rattle.bytes.proofs.Fields.{Fits, Unpacked, bit-most, small, fields, only-fits}
 use Rattle.trestlepip.specs.Face.{shown, unread, callBytes, startBytes}
-
--- so many bits of n from bit low on, as trestlepip_field of the C header takes them
-abbrev pub field : ℕ → ℕ → ℕ → ℕ
-field n low bits = n / 2 ^ low % 2 ^ bits
-
--- what each field has room for
-pub record Fits (a : Answer) : Type 0 where
-  pub status : a .status < 256
-  pub mark : a .mark ≤ 1
-  pub lines : a .lines < 256
-  pub copy : a .copy < 512
-
--- the seven, each where the C header says, and no bit above them
-pub record Unpacked (a : Answer) : Type 0 where
-  pub number : field (packed a) 0 8 ≡ numberOf (a .refusal)
-  pub status : field (packed a) 8 8 ≡ a .status
-  pub ready : field (packed a) 16 1 ≡ bit (a .ready) 1
-  pub mark : field (packed a) 17 1 ≡ a .mark
-  pub cause : field (packed a) 18 6 ≡ causeNumber (a .refusal)
-  pub lines : field (packed a) 24 8 ≡ a .lines
-  pub copy : field (packed a) 32 9 ≡ a .copy
-  pub above : packed a < 2 ^ 41
-
--- a flag's bit, and a cause's number
-bit-most : (b : Bool) (n : ℕ) → bit b n ≤ n
-bit-most true n = omega arith
-bit-most false n = omega arith
-
-cause-most : (c : Cause) → causeOf 0 c .number ≤ 10
-unfolding causeOf
-cause-most FcbChannel = lit≤ tt
-cause-most FcbSpacing = lit≤ tt
-cause-most FcbSum = lit≤ tt
-cause-most FcbEdge = lit≤ tt
-cause-most TableShort = lit≤ tt
-cause-most SequencePairs = lit≤ tt
-cause-most SequenceCounts = lit≤ tt
-cause-most NumberRecord = lit≤ tt
-cause-most SegmentEnds = lit≤ tt
-cause-most SegmentFields = lit≤ tt
-
--- the numbers of each refusal and its cause, and its status, are small
-record Small (n : ℕ) (x : Refusal) : Type 0 where
-  pub number : numberOf x ≤ 11
-  pub cause : causeNumber x ≤ 10
-  pub status : rowOf n x .status ≤ 16
-
-small : (n : ℕ) (x : Refusal) → Small n x
-unfolding rowOf
-small n Accepted = record { number = lit≤ tt; cause = lit≤ tt; status = lit≤ tt }
-small n NotListed = record { number = lit≤ tt; cause = lit≤ tt; status = lit≤ tt }
-small n BadRecord = record { number = lit≤ tt; cause = lit≤ tt; status = lit≤ tt }
-small n (LoadCheck c) = record { number = lit≤ tt; cause = cause-most c; status = lit≤ tt }
-small n PageWaiting = record { number = lit≤ tt; cause = lit≤ tt; status = lit≤ tt }
-small n PageStarted = record { number = lit≤ tt; cause = lit≤ tt; status = lit≤ tt }
-small n NoPage = record { number = lit≤ tt; cause = lit≤ tt; status = lit≤ tt }
-small n BadIndex = record { number = lit≤ tt; cause = lit≤ tt; status = lit≤ tt }
-small n TooShort = record { number = lit≤ tt; cause = lit≤ tt; status = lit≤ tt }
-small n BadStore = record { number = lit≤ tt; cause = lit≤ tt; status = lit≤ tt }
-small n BadForm = record { number = lit≤ tt; cause = lit≤ tt; status = lit≤ tt }
-small n TwoPages = record { number = lit≤ tt; cause = lit≤ tt; status = lit≤ tt }
-
--- The number comes back of every answer, whatever its other fields are.
-pub number-back : (a : Answer) → field (packed a) 0 8 ≡ numberOf (a .refusal)
-unfolding packed
-number-back a = omega (arith, small 0 (a .refusal) .number)
-
--- The fields of an answer that fits them come back.
-pub fields : (a : Answer) → Fits a → Unpacked a
-unfolding packed
-fields a h =
-    let x : Small 0 (a .refusal) = small 0 (a .refusal) in
-    let r : bit (a .ready) 1 ≤ 1 = bit-most (a .ready) 1 in
-    record {
-      number = number-back a;
-      status = omega arith;
-      ready = omega arith;
-      mark = omega arith;
-      cause = omega arith;
-      lines = omega arith;
-      copy = omega arith;
-      above = omega arith;
-    }
-
--- An answer that tells nothing but number and status, as every refusal does.
-only-fits : (x : Refusal) (n : ℕ) → n < 256 → Fits (only x n)
-only-fits x n h = record { status = h; mark = lit≤ tt; lines = lit≤ tt; copy = lit≤ tt }
 
 -- what an accepted command tells besides is its lines
 done-fits : (k : Core) (c : Causes) (m : Moved) → m .lines < 256 → Fits (done k c m .answer)

@@ -2,10 +2,10 @@
 use mathlib.Core.Bool.{and-true}
 use borrow.Author.Tests.{ne-eqb, eq-eqb}
 use Rattle.seq.specs.Words.{every}
-use Rattle.trestlepip.specs.State.{readable}
+use Rattle.bytes.specs.State.{readable}
 use borrow.Author.Needs.{needs}
-use Rattle.trestlepip.proofs.state.is_readable.Statement.{statement}
-use Rattle.trestlepip.proofs.state.is_readable.Tie as tie
+use Rattle.bytes.proofs.state.is_readable.Statement.{statement}
+use Rattle.bytes.proofs.state.is_readable.Tie as tie
 
 pub is-readable-spec : {M : Type 1} → statement M
 unfolding readable every

@@ -1,8 +1,8 @@
 -- The three parts laid.
-use Rattle.trestlepip.specs.State.{bytesOf}
+use Rattle.bytes.specs.State.{bytesOf}
 use borrow.Author.Needs.{needs}
-use Rattle.trestlepip.proofs.state.encode.Statement.{statement}
-use Rattle.trestlepip.proofs.state.encode.Tie as tie
+use Rattle.bytes.proofs.state.encode.Statement.{statement}
+use Rattle.bytes.proofs.state.encode.Tie as tie
 
 pub encode-spec : {M : Type 1} → statement M
 unfolding bytesOf

@@ -7,8 +7,8 @@ use lib.ListN.{length, drop, length-append, length-drop, drop-of-length-le}
 use lib.Seq.{take-at, drop-at}
 use borrow.Rule.Slice.PartMut.{putMid}
 use borrow.Author.Needs.{needs}
-use Rattle.trestlepip.proofs.state.lay.Statement.{statement}
-use Rattle.trestlepip.proofs.state.lay.Tie as tie
+use Rattle.bytes.proofs.state.lay.Statement.{statement}
+use Rattle.bytes.proofs.state.lay.Tie as tie
 
 -- a part written right after p, over what follows it
 put : (n k : ℕ) (p q ys : List ℕ) → length p ≡ n → putMid n k (p ++ q) ys ≡ (p ++ ys) ++ drop k q

@@ -1,12 +1,16 @@
--- Each field from its place.
+-- A case each; a load check's is its cause's own.
+use mathlib.Core.Path.{_∙_, sym, ap}
+use Rattle.bytes.specs.Packed.{causeNumber}
 use borrow.Author.Needs.{needs}
-use Rattle.trestlepip.proofs.state.gather.Statement.{statement}
-use Rattle.trestlepip.proofs.state.gather.Tie as tie
+use Rattle.bytes.proofs.answer.cause_number.Statement.{statement}
+use Rattle.bytes.proofs.answer.cause_number.Tie as tie
 
-pub gather-spec : {M : Type 1} → statement M
-gather-spec =
+pub cause-number-spec : {M : Type 1} → statement M
+cause-number-spec =
     tie.close
     (tie.spec
+    (λ c. search needs)
+    (λ c. search needs)
     (λ c. search needs)
     (λ c. search needs)
     (λ c κs. search needs)
@@ -21,6 +25,7 @@ gather-spec =
     (λ c. search needs)
     (λ c. search needs)
     (λ c. search needs)
+    (λ c. c .number .ensures ∙ sym (ap causeNumber (c .before .before .refusal .given .1)))
     (λ c. search needs)
     (λ c. search needs)
     (λ c. search needs)
@@ -28,8 +33,4 @@ gather-spec =
     (λ c. search needs)
     (λ c. search needs)
     (λ c. search needs)
-    (λ c. search needs)
-    (λ c. search needs)
-    (λ c. search needs)
-    (λ c. search needs)
-    (λ c. rw (c .before .before .before .before .before .before .before .before .before .before .before .before .before .before .before .before .before .before .before .before .before .before .pair .ensures)))
+    (λ c. search needs))

@@ -5,7 +5,7 @@ ghost use mathlib.Core.Path.{_≡_};
 ghost use Prim.Native.Nat.{_+_, _*_};
 ghost use Rattle.numbers.specs.declared.Refusal.the-variants.{BadStore};
 ghost use Rattle.numbers.specs.Numbers.{only};
-ghost use Rattle.trestlepip.specs.Packed.{causeNumber, packed};
+ghost use Rattle.bytes.specs.Packed.{causeNumber, packed};
 
 fn cause_number(refusal: Refusal) -> u8
     ensures { λ r. ⌜ r ≡ causeNumber refusal ⌝ }
@@ -38,7 +38,7 @@ fn join(number: u8, status: u8, ready: u8, mark: u8, cause: u8, lines: u8, copy:
         + (copy as u64) * 0x1_0000_0000
 }
 
-pub(crate) fn pack(a: Answer) -> u64
+pub fn pack(a: Answer) -> u64
     ensures { λ r. ⌜ r ≡ packed a ⌝ }
 {
     let refusal = a.refusal;
@@ -54,7 +54,7 @@ pub(crate) fn pack(a: Answer) -> u64
 }
 
 // What bytes that stand for no printer get.
-pub(crate) fn unread() -> u64
+pub fn unread() -> u64
     ensures { λ r. ⌜ r ≡ packed (only BadStore 0) ⌝ }
 {
     pack(Answer {
