@@ -16,7 +16,7 @@ use Rattle.form.specs.declared.Forms.{Forms}
 use Rattle.form.specs.declared.Layout.{Layout}
 use Rattle.form.specs.declared.fcb.Pass.{Pass}
 use Rattle.form.specs.Form.{upper, channel, units, halfInch, runs, runsFrom, unitsTotal, between, linesWhere, printable, edges, badChannel, otherUpper, oddRun, layoutOf, layoutCheck, fcbCheck, fcbNow}
-use Rattle.form.specs.Pass.{start, stepOf}
+use Rattle.form.specs.Pass.{set, start, stepOf}
 use Rattle.form.proofs.FormLaws.{odd}
 
 -- Runs are whole half inches exactly where every change of spacing, and the end, is a whole number of half inches down.
@@ -66,9 +66,6 @@ any-line g false b ls = refl
 module _ (len : ℕ) where
   abbrev edgy : ℕ → Bool
   edgy off = not (between len off)
-
-  abbrev set : ℕ → Bool
-  set b = not (eqb (channel b) 0)
 
   unfoldable pub joined : Pass → List ℕ → Layout
   joined s f =

@@ -1,3 +1,4 @@
 pub mod FormLaws
 pub mod Border
 pub mod LayoutLaws
+pub mod Uniform

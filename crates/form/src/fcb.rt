@@ -4,14 +4,14 @@ use crate::Layout;
 use numbers::Cause;
 use numbers::Checked;
 ghost use mathlib.Core.Path.{_≡_};
-ghost use mathlib.Core.Bool.{not, _&&_};
+ghost use mathlib.Core.Bool.{true, not, _&&_};
 ghost use mathlib.Core.List.{[], _∷_};
-ghost use Prim.Native.Nat.{_+_, _-_, _%_, _≤_};
+ghost use Prim.Native.Nat.{_+_, _-_, _/_, _%_, _≤_};
 ghost use lib.Dec.{eqb};
 ghost use lib.ListN.{length};
-ghost use Rattle.seq.specs.Words.{listed};
+ghost use Rattle.seq.specs.Words.{any, listed};
 ghost use Rattle.form.specs.Form.{formLengths, pitchesListed, formOk, unitsOf, halfInch, layoutOf, layoutCheck, fcbCheck, fcbNow, formsOf, formsInRange};
-ghost use Rattle.form.specs.Pass.{stepOf};
+ghost use Rattle.form.specs.Pass.{stepOf, astray, set, uniform};
 
 const HALF_INCH: u16 = 12;
 
@@ -86,7 +86,7 @@ fn less(a: u16, b: u16) -> u16
 }
 
 // One pass over an FCB.
-pub fn lay_out(form: u16, fcb: &[u8]) -> Layout
+fn fold(form: u16, fcb: &[u8]) -> Layout
     requires { ⌜ length (now fcb) ≤ 8192 ⌝ }
     ensures { λ r. ⌜ r ≡ layoutOf form (now (fcb .entry)) ⌝ }
 {
@@ -114,6 +114,94 @@ pub fn lay_out(form: u16, fcb: &[u8]) -> Layout
         top: s.top,
         lines: s.lines,
     }
+}
+
+// One difference tests both halves of the byte: below the upper half it wraps, and is past 12 all the more.
+fn is_astray(upper: u8, b: u8) -> bool
+    requires { ⌜ upper ≤ 15 ⌝ }
+    ensures { λ r. ⌜ r ≡ astray upper b ⌝ }
+{
+    12 < std::num::wrapping_sub_u8(b, 16 * upper)
+}
+
+fn any_astray(upper: u8, fcb: &[u8]) -> bool
+    requires { ⌜ upper ≤ 15 ⌝ }
+    ensures { λ r. ⌜ r ≡ any (astray upper) (now (fcb .entry)) ⌝ }
+{
+    let mut found = false;
+    let mut i = 0;
+    while i < fcb.len() {
+        found = found | is_astray(upper, fcb[i]);
+        i += 1;
+    }
+    found
+}
+
+fn any_channel(lines: &[u8]) -> bool
+    ensures { λ r. ⌜ r ≡ any set (now (lines .entry)) ⌝ }
+{
+    let mut found = false;
+    let mut i = 0;
+    while i < lines.len() {
+        found = found | (lines[i] % 16 != 0);
+        i += 1;
+    }
+    found
+}
+
+// The lines of a half inch, none where the upper half means no spacing.
+fn half_inch_lines(upper: u8) -> u16
+    ensures { λ r. ⌜ (r ≡ halfInch / unitsOf upper) × (r ≤ 6) ⌝ }
+{
+    let n = units(upper);
+    if n == 0 {
+        return 0;
+    }
+    HALF_INCH / n
+}
+
+fn is_uniform(form: u16, fcb: &[u8]) -> bool
+    requires { ⌜ length (now fcb) ≤ 8192 ⌝ }
+    ensures { λ r. ⌜ r ≡ uniform form (now (fcb .entry)) ⌝ }
+{
+    if fcb.len() < 12 {
+        return false;
+    }
+    let upper = fcb[0] / 16;
+    let k = half_inch_lines(upper);
+    (12 * fcb.len() == k as usize * form as usize) & !any_astray(upper, fcb)
+}
+
+fn lay_out_uniform(form: u16, fcb: &[u8]) -> Layout
+    requires { ⌜ 12 ≤ length (now fcb) ⌝ }
+    requires { ⌜ length (now fcb) ≤ 8192 ⌝ }
+    requires { ⌜ uniform form (now fcb) ≡ true ⌝ }
+    ensures { λ r. ⌜ r ≡ layoutOf form (now (fcb .entry)) ⌝ }
+{
+    let end = fcb.len();
+    let top = half_inch_lines(fcb[0] / 16);
+    let k = top as usize;
+    let last = end - k;
+    let edge = any_channel(&fcb[0..k]) | any_channel(&fcb[last..end]);
+    Layout {
+        channel: false,
+        spacing: form % HALF_INCH != 0,
+        units: form,
+        edge: edge,
+        top: top,
+        lines: (last - k) as u16,
+    }
+}
+
+// Most FCBs have one spacing throughout, and their layout is known without the pass.
+pub fn lay_out(form: u16, fcb: &[u8]) -> Layout
+    requires { ⌜ length (now fcb) ≤ 8192 ⌝ }
+    ensures { λ r. ⌜ r ≡ layoutOf form (now (fcb .entry)) ⌝ }
+{
+    if is_uniform(form, fcb) {
+        return lay_out_uniform(form, fcb);
+    }
+    fold(form, fcb)
 }
 
 pub fn layout_check(form: u16, layout: Layout) -> Checked
