@@ -8,13 +8,14 @@ use form::Layout;
 use numbers::Checked;
 use numbers::Refusal;
 ghost use mathlib.Core.Path.{_≡_};
-ghost use mathlib.Core.Bool.{false};
+ghost use mathlib.Core.Bool.{true, false};
 ghost use mathlib.Core.List.{[], _∷_};
 ghost use Prim.Native.Nat.{_≤_};
 ghost use lib.ListN.{length};
 ghost use Rattle.seq.specs.Words.{firstOr};
 ghost use Rattle.numbers.specs.declared.Refusal.the-variants.{Accepted};
-ghost use Rattle.calls.specs.Core.{storesOf, laidOut};
+ghost use Rattle.calls.specs.Core.{Stores, storesOf, laidOut};
+ghost use Rattle.calls.specs.Contents.{coreOk};
 ghost use Rattle.calls.specs.Effects.{loadCheck};
 ghost use Rattle.calls.specs.Calls.{badRecord, checkOf, commandTests, composeTests, releaseTests};
 ghost use Rattle.calls.specs.Start.{startRefusal};
@@ -58,25 +59,11 @@ fn check_of(form: u16, command: Command, sent: &[u8]) -> Checked
     }
 }
 
-// 9, 1, 4, 2, 5, 3, 8; 11 is in the order too, but no command completes two pages.
-pub fn command_refusal(
-    state: State,
-    form: Layout,
-    command: Command,
-    sent: &[u8],
-    reply: &[u8],
-    page: &[u8],
-    legends: &[u8],
-    tables: &[u8],
-) -> Refusal
-    requires { ⌜ form ≡ laidOut state ⌝ }
-    ensures { λ r. ⌜ r ≡ firstOr Accepted (commandTests
-        (record { state = state; stores = storesOf (now (page .entry)) (now (legends .entry)) (now (tables .entry)) })
-        command (now (sent .entry)) (now (reply .entry))) ⌝ }
+// 1, 4, 2, 5, 3, 8 on contents that a printer can have, so that 9 is past; 11 is in the order too, but no command completes two pages.
+pub fn command_refusal(state: State, command: Command, sent: &[u8], reply: &[u8]) -> Refusal
+    ensures { λ r. ⌜ ((m : Stores) → coreOk (record { state = state; stores = m }) ≡ true
+        → r ≡ firstOr Accepted (commandTests (record { state = state; stores = m }) command (now (sent .entry)) (now (reply .entry)))) ⌝ }
 {
-    if !contents::contents_ok(state, form, page, legends, tables) {
-        return Refusal::BadStore;
-    }
     if commands::is_unlisted(command) {
         return Refusal::NotListed;
     }
@@ -105,24 +92,12 @@ pub fn command_refusal(
     Refusal::Accepted
 }
 
-// 9, 6, 7, 8; the page's lines are those of the form as it is laid out.
-pub fn compose_refusal(
-    state: State,
-    form: Layout,
-    copy: u32,
-    out: &[u8],
-    page: &[u8],
-    legends: &[u8],
-    tables: &[u8],
-) -> Refusal
+// 6, 7, 8 likewise; the page's lines are those of the form as it is laid out.
+pub fn compose_refusal(state: State, form: Layout, copy: u32, out: &[u8]) -> Refusal
     requires { ⌜ form ≡ laidOut state ⌝ }
-    ensures { λ r. ⌜ r ≡ firstOr Accepted (composeTests
-        (record { state = state; stores = storesOf (now (page .entry)) (now (legends .entry)) (now (tables .entry)) })
-        copy (now (out .entry))) ⌝ }
+    ensures { λ r. ⌜ ((m : Stores) → coreOk (record { state = state; stores = m }) ≡ true
+        → r ≡ firstOr Accepted (composeTests (record { state = state; stores = m }) copy (now (out .entry)))) ⌝ }
 {
-    if !contents::contents_ok(state, form, page, legends, tables) {
-        return Refusal::BadStore;
-    }
     if !state.sheet.waiting {
         return Refusal::NoPage;
     }
@@ -136,21 +111,11 @@ pub fn compose_refusal(
     Refusal::Accepted
 }
 
-// 9, 6.
-pub fn release_refusal(
-    state: State,
-    form: Layout,
-    page: &[u8],
-    legends: &[u8],
-    tables: &[u8],
-) -> Refusal
-    requires { ⌜ form ≡ laidOut state ⌝ }
-    ensures { λ r. ⌜ r ≡ firstOr Accepted (releaseTests
-        (record { state = state; stores = storesOf (now (page .entry)) (now (legends .entry)) (now (tables .entry)) })) ⌝ }
+// 6 likewise.
+pub fn release_refusal(state: State) -> Refusal
+    ensures { λ r. ⌜ ((m : Stores) → coreOk (record { state = state; stores = m }) ≡ true
+        → r ≡ firstOr Accepted (releaseTests (record { state = state; stores = m }))) ⌝ }
 {
-    if !contents::contents_ok(state, form, page, legends, tables) {
-        return Refusal::BadStore;
-    }
     if !state.sheet.waiting {
         return Refusal::NoPage;
     }

@@ -1,5 +1,5 @@
 -- The tests in their order: those that are passed are false, and the first that holds gives its number.
-use mathlib.Core.Path.{sym, ap, _∙_}
+use mathlib.Core.Path.{sym, ap}
 use mathlib.Core.Bool.{not}
 use Rattle.seq.proofs.Laws.{clear, hit, pass, first-only}
 use Rattle.numbers.specs.declared.Refusal.the-variants.{NoPage, BadStore}
@@ -8,7 +8,8 @@ use Rattle.order.proofs.refusals.release_refusal.Statement.{statement}
 use Rattle.order.proofs.refusals.release_refusal.Tie as tie
 
 pub release-refusal-spec : {M : Type 1} → statement M
-release-refusal-spec = tie.close (tie.spec (λ c κs. search needs) (λ c. sym (first-only (hit (ap not (sym (c .before .contents-ok .ensures))
-    ∙ c .if1 .taken)))) (λ c. sym (first-only (pass BadStore (ap not (sym (c .before .before .before .contents-ok .ensures))
-    ∙ c .before .before .if1 .left) (hit (c .if2 .taken))))) (λ c. sym (first-only (pass BadStore (ap not (sym
-    (c .before .before .before .contents-ok .ensures)) ∙ c .before .before .if1 .left) (pass NoPage (c .if2 .left) clear)))))
+release-refusal-spec =
+    tie.close
+    (tie.spec
+    (λ c m ok. sym (first-only (pass BadStore (ap not ok) (hit (c .if1 .taken)))))
+    (λ c m ok. sym (first-only (pass BadStore (ap not ok) (pass NoPage (c .if1 .left) clear)))))
