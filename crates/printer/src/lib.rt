@@ -1,4 +1,4 @@
-// The four calls on a printer by value. Each answers for every state, slice and number: it asks nothing of its caller, and its contract is one
+// The four calls on a printer by value, whose contents were found good: each is accepted or refused as the definition has it. Its contract is one
 // equation that fixes the answer, the printer and every lent byte.
 use actions::Printer;
 use actions::Step;
@@ -7,10 +7,12 @@ use form::Layout;
 use numbers::Answer;
 use numbers::Refusal;
 ghost use mathlib.Core.Path.{_≡_};
+ghost use mathlib.Core.Bool.{true};
 ghost use mathlib.Core.List.{[], _∷_};
 ghost use Rattle.seq.specs.Words.{firstOr};
 ghost use Rattle.numbers.specs.declared.Refusal.the-variants.{Accepted};
 ghost use Rattle.calls.specs.Core.{storesOf, laidOut};
+ghost use Rattle.calls.specs.Contents.{coreOk};
 ghost use Rattle.calls.specs.Effects.{doCommand};
 ghost use Rattle.calls.specs.Calls.{command, compose, release, commandTests, outcomeOf, step};
 ghost use Rattle.calls.specs.Start.{startOutcome};
@@ -74,6 +76,7 @@ fn perform(
 
 pub fn command(
     p: Printer,
+    form: Layout,
     byte: u8,
     sent: &[u8],
     reply: &mut [u8],
@@ -81,23 +84,14 @@ pub fn command(
     legends: &mut [u8],
     tables: &mut [u8],
 ) -> Step
+    requires { ⌜ form ≡ laidOut (p .state) ⌝ }
+    requires { ⌜ coreOk (coreOf p (storesOf (now page) (now legends) (now tables))) ≡ true ⌝ }
     ensures { λ r. ⌜ outcome r (now (reply .exit)) (storesOf (now (page .exit)) (now (legends .exit)) (now (tables .exit)))
         ≡ step (worldOf p (storesOf (now (page .entry)) (now (legends .entry)) (now (tables .entry))))
         (command byte (now (sent .entry)) (now (reply .entry))) ⌝ }
 {
-    let state = p.state;
-    let form = order::contents::layout(state);
     let command = order::commands::decode(byte);
-    let refusal = order::refusals::command_refusal(
-        state,
-        form,
-        command,
-        sent,
-        reply,
-        page,
-        legends,
-        tables,
-    );
+    let refusal = order::refusals::command_refusal(p.state, command, sent, reply);
     if refusal.is_accepted() {
         return perform(p, form, command, sent, reply, page, legends, tables);
     }
@@ -107,18 +101,19 @@ pub fn command(
 // The copy with this index, from 1, of the page that waits.
 pub fn compose(
     p: Printer,
+    form: Layout,
     copy: u32,
     out: &mut [u8],
     page: &[u8],
     legends: &[u8],
     tables: &[u8],
 ) -> Step
+    requires { ⌜ form ≡ laidOut (p .state) ⌝ }
+    requires { ⌜ coreOk (coreOf p (storesOf (now page) (now legends) (now tables))) ≡ true ⌝ }
     ensures { λ r. ⌜ (let m = storesOf (now (page .entry)) (now (legends .entry)) (now (tables .entry)) in
         outcome r (now (out .exit)) m ≡ step (worldOf p m) (compose copy (now (out .entry)))) ⌝ }
 {
-    let state = p.state;
-    let form = order::contents::layout(state);
-    let refusal = order::refusals::compose_refusal(state, form, copy, out, page, legends, tables);
+    let refusal = order::refusals::compose_refusal(p.state, form, copy, out);
     if refusal.is_accepted() {
         return p.print_copy(form, copy as u16, out, page, legends);
     }
@@ -127,12 +122,11 @@ pub fn compose(
 
 // The page that waits is done with.
 pub fn release(p: Printer, page: &mut [u8], legends: &mut [u8], tables: &mut [u8]) -> Step
+    requires { ⌜ coreOk (coreOf p (storesOf (now page) (now legends) (now tables))) ≡ true ⌝ }
     ensures { λ r. ⌜ outcome r [] (storesOf (now (page .exit)) (now (legends .exit)) (now (tables .exit)))
         ≡ step (worldOf p (storesOf (now (page .entry)) (now (legends .entry)) (now (tables .entry)))) release ⌝ }
 {
-    let state = p.state;
-    let form = order::contents::layout(state);
-    let refusal = order::refusals::release_refusal(state, form, page, legends, tables);
+    let refusal = order::refusals::release_refusal(p.state);
     if refusal.is_accepted() {
         return p.empty_page(page, legends, tables);
     }

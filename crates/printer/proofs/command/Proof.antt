@@ -25,15 +25,15 @@ abbrev call : tie.Start → Call
 call c = command (c .args .byte) (c .args .sent .now) (c .args .reply .now)
 
 abbrev at-start : tie.After-command-refusal → tie.Start
-at-start c = c .before .before .before .before .before .before .before .before .before .before .before .before .before
+at-start c = c .before .before .before .before .before .before .before .before
 
 given : (c : tie.After-command-refusal) → c .command-refusal .result ≡ refusalOf (world (at-start c) .core) (call (at-start c))
 unfolding refusalOf
 given c =
     let s = at-start c in
-    c .command-refusal .ensures
+    c .command-refusal .ensures _ (s .pre .1)
     ∙ ap (λ (k : Command). firstOr Accepted (commandTests (world s .core) k (s .args .sent .now) (s .args .reply .now)))
-    (c .before .before .before .before .before .decode .ensures)
+    (c .before .before .decode .ensures)
 
 -- a record that a load check is given to is counted as it is
 counted : (c : tie.After-shown-count) → let n = length (at-start (c .before .before .before) .args .sent .now) in
@@ -50,11 +50,10 @@ command-spec =
     (λ c κs. search needs)
     (λ c κs. search needs)
     (λ c κs. search needs)
-    (λ c κs. search needs)
-    (λ c κs. let x = c .before .before .before .before .before .before in (
-      x .before .before .before .before .before .before .layout .ensures,
+    (λ c κs. let x = c .before .before .before .before .before .before in let s = at-start x in (
+      s .pre .0,
       sym
-          (x .command-refusal .ensures) ∙ accepted-is _ (sym (c .before .before .before .before .before .is-accepted .ensures)
+          (x .command-refusal .ensures _ (s .pre .1)) ∙ accepted-is _ (sym (c .before .before .before .before .before .is-accepted .ensures)
           ∙ c .before .before .before .before .if1 .taken),
     ))
     (λ c. search needs)
@@ -65,14 +64,11 @@ command-spec =
     let x = p .before .before .before .before .before .before .before in let s = at-start x in accepted-so (world s) (call s) (given x) (sym
     (p .before .before .before .before .before .before .is-accepted .ensures) ∙ p .before .before .before .before .before .if1 .taken)
     (p .perform .ensures ∙ ap (λ (k : Command). outcomeOf (s .args .p .sense) (s .args .reply .now) (doCommand (world s .core) k
-    (s .args .sent .now))) (x .before .before .before .before .before .decode .ensures)))
+    (s .args .sent .now))) (x .before .before .decode .ensures)))
     (λ c κs. search needs)
     (λ c κs. search needs)
-    (λ c. search needs)
-    (λ c. search needs)
-    (λ c. search needs)
     (λ c. search needs)
     (λ c. let x = c .before .before .before .before in let s = at-start x in refused-so (world s) (call s) (given x) _ (sym
     (c .before .before .before .is-accepted .ensures) ∙ c .before .before .if1 .left) (row-same _ _ _ (λ y e. counted (c .before) (check-fits
-    (world s .core) (x .before .before .before .before .before .decode .result) (s .args .sent .now) (s .args .reply .now) (sym
-    (x .command-refusal .ensures) ∙ e)))) (c .refuse .ensures _ _)))
+    (world s .core) (x .before .before .decode .result) (s .args .sent .now) (s .args .reply .now) (sym
+    (x .command-refusal .ensures _ (s .pre .1)) ∙ e)))) (c .refuse .ensures _ _)))

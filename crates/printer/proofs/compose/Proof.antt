@@ -23,11 +23,11 @@ abbrev call : tie.Start → Call
 call c = compose (c .args .copy) (c .args .out .now)
 
 abbrev start : tie.Then1 → tie.Start
-start c = c .before .before .before .before .before .before .before .before .before .before
+start c = c .before .before .before .before .before .before .before .before
 
 -- once it is accepted
 taken : (c : tie.Then1) → Composable (world (start c) .core) (start c .args .copy) (start c .args .out .now)
-taken c = composable _ _ _ (sym (c .before .before .compose-refusal .ensures) ∙ accepted-is _ (sym (c .before .is-accepted .ensures)
+taken c = composable _ _ _ (sym (c .before .before .compose-refusal .ensures _ (start c .pre .1)) ∙ accepted-is _ (sym (c .before .is-accepted .ensures)
     ∙ c .if1 .taken))
 
 few : (c : tie.Then1) → start c .args .copy ≤ 255
@@ -41,17 +41,17 @@ compose-spec =
     (tie.spec
     (λ c κs. search needs)
     (λ c κs. search needs)
-    (λ c κs. search needs)
     (λ c. omega (arith, few (c)))
-    (λ c κs. let s = c .before .before .before .before .before .before .before .before .before .before .before in let k = taken (c .before) in
-    let l = c .before .before .before .before .before .layout .ensures in let g = good _ (k .ok) in
-    (ready _ _ l (k .ok), (k .low, (few (c .before), (g .legends, (g .sizes .page, rw (form-lines (s .args .p .state) _ l) (k .room)))))))
+    (λ c κs. let s = start (c .before) in let k = taken (c .before) in let g = good _ (k .ok) in (
+      ready _ _ (s .pre .0) (k .ok),
+      (k .low, (few (c .before), (g .legends, (g .sizes .page, rw (form-lines (s .args .p .state) _ (s .pre .0)) (k .room))))),
+    ))
     (λ c. search needs)
-    (λ c. let e = c .before .before in let x = e .before .before .before .before in
-    let s = x .before .before .before .before .before .before .before .before in accepted-so (world s) (call s) (x .compose-refusal .ensures)
-    (sym (e .before .before .before .is-accepted .ensures) ∙ e .before .before .if1 .taken) (e .print-copy .ensures _))
+    (λ c. let e = c .before .before in let x = e .before .before .before .before in let s = x .before .before .before .before .before .before in
+    accepted-so (world s) (call s) (x .compose-refusal .ensures _ (s .pre .1)) (sym (e .before .before .before .is-accepted .ensures)
+    ∙ e .before .before .if1 .taken) (e .print-copy .ensures _))
     (λ c κs. search needs)
     (λ c. search needs)
-    (λ c. let x = c .before .before .before in let s = x .before .before .before .before .before .before .before .before in
-    refused-so (world s) (call s) (x .compose-refusal .ensures) 0 (sym (c .before .before .is-accepted .ensures)
+    (λ c. let x = c .before .before .before in let s = x .before .before .before .before .before .before in
+    refused-so (world s) (call s) (x .compose-refusal .ensures _ (s .pre .1)) 0 (sym (c .before .before .is-accepted .ensures)
     ∙ c .before .if1 .left) refl (c .refuse .ensures _ _)))

@@ -1,9 +1,7 @@
 -- Accepted or refused, as the definition has it.
 use mathlib.Core.Path.{refl, sym, _∙_}
-use Rattle.numbers.proofs.Laws.{accepted-is}
 use Rattle.calls.specs.Core.{World, storesOf}
 use Rattle.calls.specs.Calls.{release, refusalOf, perform}
-use Rattle.calls.proofs.Accepted.{releasable}
 use Rattle.calls.proofs.Good.{good}
 use Rattle.actions.specs.Whole.{worldOf}
 use Rattle.printer.proofs.Steps.{accepted-so, refused-so}
@@ -21,21 +19,15 @@ release-spec =
     (tie.spec
     (λ c κs. search needs)
     (λ c κs. search needs)
-    (λ c κs. search needs)
-    (λ c κs. let x = c .before .before .before .before .before in let g = good _ (releasable _ (sym (x .release-refusal .ensures)
-    ∙ accepted-is _ (sym (c .before .before .before .before .is-accepted .ensures) ∙ c .before .before .before .if1 .taken))) in
+    (λ c κs. let s = c .before .before .before .before .before .before .before .before .before in let g = good _ (s .pre) in
     (g .fixed, (g .sizes .page, (g .sizes .legends, g .sizes .tables))))
     (λ c. search needs)
     (λ c. search needs)
     (λ c. search needs)
     (λ c. let e = c .before .before .before .before .before .before in let x = e .before .before .before .before .before .before in
-    let s = x .before .before .before .before .before .before .before .before .before in
-    accepted-so (world s) release (x .release-refusal .ensures) (sym (e .before .before .before .before .before .is-accepted .ensures)
-    ∙ e .before .before .before .before .if1 .taken) (e .empty-page .ensures _))
+    let s = x .before .before .before .before in accepted-so (world s) release (x .release-refusal .ensures _ (s .pre))
+    (sym (e .before .before .before .before .before .is-accepted .ensures) ∙ e .before .before .before .before .if1 .taken) (e .empty-page .ensures _))
     (λ c κs. search needs)
-    (λ c. search needs)
-    (λ c. search needs)
-    (λ c. search needs)
-    (λ c. let x = c .before .before .before in let s = x .before .before .before .before .before .before .before .before .before in
-    refused-so (world s) release (x .release-refusal .ensures) 0 (sym (c .before .before .is-accepted .ensures)
+    (λ c. let x = c .before .before .before in let s = x .before .before .before .before in
+    refused-so (world s) release (x .release-refusal .ensures _ (s .pre)) 0 (sym (c .before .before .is-accepted .ensures)
     ∙ c .before .if1 .left) refl (c .refuse .ensures _ _)))
