@@ -1,3 +1,2 @@
-pub mod Ready
-pub mod Steps
-pub mod Tight
+mod Ready
+mod Steps

@@ -1,25 +1,29 @@
--- What an export's contract comes to: bytes that stand for a printer get its step, bytes that stand for none get 9 and are left.
-use Prim.Native.Nat.{ℕ}
-use mathlib.Core.Path.{_≡_, refl, ap, _∙_}
-use mathlib.Core.Bool.{Bool, true, false}
+-- What an export's contract comes to: bytes and stores that a printer can have get its step, any others get 9 and are left.
+use Prim.Native.Nat.{ℕ, _<_}
+use mathlib.Core.Path.{_≡_, refl, sym, ap, _∙_}
+use mathlib.Core.Bool.{Bool, true, false, cond, _&&_}
 use mathlib.Core.List.{List, [], _∷_}
 use lib.Dec.{eqb}
 use lib.ListN.{length}
 use Rattle.seq.specs.Words.{when, firstOr, zeros}
+use Rattle.seq.proofs.Laws.{and-left, and-right}
 use Rattle.numbers.specs.declared.Sense.{Sense}
 use Rattle.numbers.specs.declared.Refusal.the-variants.{Accepted, NoPage, BadIndex, TooShort, BadStore}
 use Rattle.numbers.specs.Numbers.{rowOf, only, senseAfter}
 use Rattle.calls.specs.Core.{Stores, World}
+use Rattle.calls.specs.Contents.{coreOk}
 use Rattle.calls.specs.Effects.{Effect, refused}
 use Rattle.calls.specs.Calls.{Call, compose, doCompose, perform, lent, refusalOf, Outcome, step}
 use Rattle.calls.specs.Start.{startOutcome, noState, noPrinter}
-use Rattle.calls.proofs.Refused.{by-outcome}
+use Rattle.calls.proofs.Refused.{by-outcome, nine}
 use Rattle.actions.specs.declared.Printer.{Printer}
 use Rattle.actions.specs.declared.Step.{Step}
-use Rattle.actions.specs.Whole.{worldOf, outcome}
-use Rattle.bytes.specs.State.{stateSize, bytesOf, printerOf, readable}
+use Rattle.actions.specs.Whole.{coreOf, worldOf, outcome}
+use Rattle.bytes.specs.State.{stateSize, bytesOf, byteAt, printerOf, readable}
+use Rattle.bytes.specs.Contents.{soundBytes}
 use Rattle.bytes.specs.Packed.{packed}
-use Rattle.trestlepip.specs.Face.{printerIn, shown, called, callBytes, startBytes}
+use Rattle.bytes.proofs.Round.{back, readable-size}
+use Rattle.trestlepip.specs.Face.{printerIn, shown, unread, called, callBytes, startBytes}
 
 -- What a call did, as the host finds it: its answer packed, its printer's bytes.
 shown-so : {r : Step} {answer : ℕ} {buffer bytes : List ℕ} {m : Stores} {o : Outcome}
@@ -33,9 +37,31 @@ module _ (s : List ℕ) (m : Stores) (c : Call) where
   unfolding callBytes
   read-so e d o a b = rw e (shown-so (o ∙ ap (λ (p : Printer). step (worldOf p m) c) d) a b)
 
-  pub unread-so : {answer : ℕ} → readable s ≡ false → answer ≡ packed (only BadStore 0) → called answer (lent c) s m ≡ callBytes s m c
-  unfolding callBytes
-  unread-so e a = rw (e, a)
+  -- bytes that no printer has, or stores that none has: 9 from every call, and nothing is written
+  nine-read : (t : Bool) → byteAt s 1 < 256 → readable s ≡ t → (t && coreOk (coreOf (printerOf s) m)) ≡ false
+      → cond t (shown (step (worldOf (printerOf s) m) c)) (unread (lent c) s m) ≡ unread (lent c) s m
+  nine-read true low e n = ap shown (nine (worldOf (printerOf s) m) c n) ∙ ap (λ (l : List ℕ). unread (lent c) l m) (back s low e)
+  nine-read false low e n = refl
+
+  pub nine-seen : byteAt s 1 < 256 → soundBytes s m ≡ false → callBytes s m c ≡ unread (lent c) s m
+  unfolding callBytes soundBytes
+  nine-seen low n = nine-read (readable s) low refl n
+
+  pub unread-so : {answer : ℕ} → byteAt s 1 < 256 → soundBytes s m ≡ false → answer ≡ packed (only BadStore 0)
+      → called answer (lent c) s m ≡ callBytes s m c
+  unread-so low e a = rw a (sym (nine-seen low e))
+
+-- Sound bytes stand for a printer, and are as many as a state has; its contents are good.
+pub sound-read : (s : List ℕ) (m : Stores) → soundBytes s m ≡ true → readable s ≡ true
+unfolding soundBytes
+sound-read s m e = and-left (readable s) (coreOk (coreOf (printerOf s) m)) e
+
+pub sound-good : (s : List ℕ) (m : Stores) → soundBytes s m ≡ true → coreOk (coreOf (printerOf s) m) ≡ true
+unfolding soundBytes
+sound-good s m e = and-right (readable s) (coreOk (coreOf (printerOf s) m)) e
+
+pub sound-size : (s : List ℕ) (m : Stores) → soundBytes s m ≡ true → length s ≡ stateSize
+sound-size s m e = readable-size s (sound-read s m e)
 
 -- Start's.
 module _ (form : ℕ) (pitches s : List ℕ) (m : Stores) where

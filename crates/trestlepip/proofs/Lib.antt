@@ -1,4 +1,5 @@
 pub mod Calls
+pub mod Tight
 pub mod Tells
 pub mod Sized
 pub mod Follow

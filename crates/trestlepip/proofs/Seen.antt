@@ -1,7 +1,7 @@
 -- The promises as a C host sees them: 9 and refusals leave its bytes, a Start is a start, and a finished reset forgets.
 use Prim.Native.Nat.{ℕ, _<_}
 use mathlib.Core.Path.{_≡_, refl, sym, ap, _∙_}
-use mathlib.Core.Bool.{Bool, true, false, cond, _&&_}
+use mathlib.Core.Bool.{Bool, true, false, cond}
 use mathlib.Core.List.{List, [], _++_}
 use native.Mathlib.Omega.{arith}
 use lib.ListN.{length, take, drop}
@@ -19,7 +19,7 @@ use Rattle.calls.specs.Start.{startRefusal, startWorld, noState, noPrinter, sta
 use Rattle.calls.specs.Lists.{worldAfter, sinceReset}
 use Rattle.calls.proofs.Good.{Good}
 use Rattle.calls.proofs.Accepted.{startable}
-use Rattle.calls.proofs.Refused.{refused-step, nine, refused-start, zeros-nine}
+use Rattle.calls.proofs.Refused.{refused-step, refused-start, zeros-nine}
 use Rattle.calls.proofs.Answers.{names}
 use Rattle.calls.proofs.Closed.{no-9, good-calls, started-so, start-good, never-9}
 use Rattle.calls.proofs.Demand3.{after-alike, demand-3}
@@ -55,17 +55,7 @@ module _ (s : List ℕ) (m : Stores) (low : byteAt s 1 < 256) where
   follow-bytes cs e g =
       ap (λ (l : List ℕ). bytesAfter (held l m) cs) (sym (back s low e)) ∙ follow (worldOf (printerOf s) m) cs g (sized s e)
 
-  -- bytes that none has, or stores that none has: 9 from every call, and nothing is written
-  nine-read : (t : Bool) (c : Call) → readable s ≡ t → (t && coreOk (coreOf (printerOf s) m)) ≡ false
-      → cond t (shown (step (worldOf (printerOf s) m) c)) (unread (lent c) s m) ≡ unread (lent c) s m
-  nine-read true c e n = ap shown (nine (worldOf (printerOf s) m) c n) ∙ ap (λ (l : List ℕ). unread (lent c) l m) (back s low e)
-  nine-read false c e n = refl
-
-  pub nine-seen : (c : Call) → (readable s && coreOk (coreOf (printerOf s) m)) ≡ false → callBytes s m c ≡ unread (lent c) s m
-  unfolding callBytes
-  nine-seen c n = nine-read (readable s) c refl n
-
-  -- and 9 to no other
+  -- 9 to none but those that no printer has (`nine-seen`, Calls)
   pub nine-only : (c : Call) → readable s ≡ true → coreOk (coreOf (printerOf s) m) ≡ true → eqb (numberIn (callBytes s m c)) 9 ≡ false
   unfolding callBytes
   nine-only c e n =

@@ -1,9 +1,8 @@
 // The printer for a C host: four calls on numbers and lent bytes. None asks anything of its caller, and the contract of each is one equation that
 // fixes the packed answer and every lent byte.
-mod answer;
-mod state;
-
-use printer::Printer;
+use bytes::answer;
+use bytes::contents;
+use bytes::state;
 ghost use mathlib.Core.Path.{_≡_};
 ghost use mathlib.Core.List.{[], _∷_};
 ghost use Rattle.calls.specs.Calls.{command, compose, release};
@@ -29,7 +28,7 @@ pub extern "C" fn trestlepip_start(
     if state.len() != state::STATE_BYTES {
         return answer::unread();
     }
-    let step = Printer::start(form, pitch0, pitch1, pitch2, pitch3, page, legends, tables);
+    let step = printer::start(form, pitch0, pitch1, pitch2, pitch3, page, legends, tables);
     state::encode(step.printer, state);
     answer::pack(step.answer)
 }
@@ -48,11 +47,12 @@ pub extern "C" fn trestlepip_command(
         ≡ callBytes (now (state .entry)) (storesOf (now (page .entry)) (now (legends .entry)) (now (tables .entry)))
         (command byte (now (sent .entry)) (now (reply .entry))) ⌝ }
 {
-    if !state::is_readable(state) {
+    let found = contents::look(state, page, legends, tables);
+    if !found.sound {
         return answer::unread();
     }
-    let printer = state::decode(state);
-    let step = printer.command(byte, sent, reply, page, legends, tables);
+    let p = state::decode(state);
+    let step = printer::command(p, found.form, byte, sent, reply, page, legends, tables);
     state::encode(step.printer, state);
     answer::pack(step.answer)
 }
@@ -70,11 +70,12 @@ pub extern "C" fn trestlepip_compose(
     ensures { λ r. ⌜ (let m = storesOf (now (page .entry)) (now (legends .entry)) (now (tables .entry)) in
         called r (now (out .exit)) (now (state .entry)) m ≡ callBytes (now (state .entry)) m (compose copy (now (out .entry)))) ⌝ }
 {
-    if !state::is_readable(state) {
+    let found = contents::look(state, page, legends, tables);
+    if !found.sound {
         return answer::unread();
     }
-    let printer = state::decode(state);
-    let step = printer.compose(copy, out, page, legends, tables);
+    let p = state::decode(state);
+    let step = printer::compose(p, found.form, copy, out, page, legends, tables);
     answer::pack(step.answer)
 }
 
@@ -88,11 +89,12 @@ pub extern "C" fn trestlepip_release(
     ensures { λ r. ⌜ called r [] (now (state .exit)) (storesOf (now (page .exit)) (now (legends .exit)) (now (tables .exit)))
         ≡ callBytes (now (state .entry)) (storesOf (now (page .entry)) (now (legends .entry)) (now (tables .entry))) release ⌝ }
 {
-    if !state::is_readable(state) {
+    let found = contents::look(state, page, legends, tables);
+    if !found.sound {
         return answer::unread();
     }
-    let printer = state::decode(state);
-    let step = printer.release(page, legends, tables);
+    let p = state::decode(state);
+    let step = printer::release(p, page, legends, tables);
     state::encode(step.printer, state);
     answer::pack(step.answer)
 }
