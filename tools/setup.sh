@@ -1,5 +1,5 @@
 # shellcheck shell=sh
-# Sourced from the root by ./morning and ./test: which compilers and emulator serve, what to install, how the library and the programs are built.
+# Sourced from the root by ./morning, ./test and ./bench: which compilers and emulator serve, what to install, how library and programs are built.
 
 # The archive is for x86-64; on another machine the programs are built by a cross compiler, linked whole, and run by an emulator.
 # shellcheck disable=SC2034 # CXX and RUN are for the scripts that source this
@@ -9,6 +9,7 @@ x86_64 | amd64) CC=gcc CXX=g++ LINK='' RUN='' ;;
 esac
 WARNINGS='-Wall -Wextra -Wpedantic -Wconversion -Wshadow -Werror'
 LIBRARY=target/staticlib/libtrestlepip.a
+LEVEL=-O2
 TRAPS=''
 
 stop() { # WORDS...
@@ -88,15 +89,15 @@ build_library() {
     [ "$status" -eq 0 ] || { cat target/c/rt.out >&2; stop 'rt refuses the library'; }
 }
 
-# Compiles and links target/c/NAME from these sources and archives; TRAPS are options of the tests. The help card's lines come to C by a header
-# made here.
+# Compiles and links target/c/NAME from these sources and archives; LEVEL is how much the compiler optimises, TRAPS are options of the tests. The help
+# card's lines come to C by a header made here.
 build() { # NAME SOURCE...
     program=target/c/$1
     shift
     mkdir -p target/c
     awk -f host/help-card.awk docs/HELP-CARD.md >target/c/help_card.h
     # shellcheck disable=SC2086
-    "$CC" -std=c11 -O2 $WARNINGS -Wstrict-prototypes -Wmissing-prototypes $TRAPS $LINK -Iinclude -Itarget/c -o "$program" "$@"
+    "$CC" -std=c11 "$LEVEL" $WARNINGS -Wstrict-prototypes -Wmissing-prototypes $TRAPS $LINK -Iinclude -Itarget/c -o "$program" "$@"
 }
 
 # What each program is made of, but for the library and the second program.
@@ -107,3 +108,4 @@ SECOND='tests/second/second.c tests/second/state.c tests/second/form.c tests/sec
 ROWS=tests/second/rows.c
 GENERATOR='tests/second/calls.c tests/second/chance.c tests/second/records.c tests/second/damage.c'
 DRIVE="tests/second/drive.c tests/second/counts.c $GENERATOR"
+BENCH='benches/bench.c benches/works.c benches/sides.c benches/plain.c'

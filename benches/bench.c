@@ -1,0 +1,247 @@
+/*
+ * The library's times beside those of plain C, through the same interface. Each work is first done by both and compared, and again after its
+ * times were taken. Entries take turns, batch by batch, and the best batch of each counts, so that what else the machine does matters least.
+ */
+#define _POSIX_C_SOURCE 199309L
+#include "works.h"
+
+#include <stdio.h>
+#include <stdlib.h>
+#include <string.h>
+#include <time.h>
+
+enum { BATCHES = 1000, BATCH_NS = 25000, MEMCPY_LIMIT = 3 };
+
+static struct side library_side = { .program = &library }, plain_side = { .program = &plain };
+
+/* Nanoseconds of one part of a work; that of memcpy where the work composes, else 0. */
+struct times {
+    double library, plain, copied;
+};
+
+struct options {
+    bool compare_only;
+    double at_least;
+};
+
+static void fail(const char *work, const char *what)
+{
+    printf("%s: %s\n", work, what);
+    exit(1);
+}
+
+/* ---- the printers ---- */
+
+static void damage(struct side *s, enum damage kind)
+{
+    if (kind == SHORT_PAGE)
+        s->page_len--;
+    if (kind == BAD_SELECTION)
+        s->state[s->program->selected_at] = 4;
+    if (kind == LAST_LEGEND_BYTE)
+        s->legends[TRESTLEPIP_LEGEND_BYTES - 1] = 1;
+}
+
+/* A printer as the work begins with it. */
+static void make_ready(struct side *s, const struct work *w)
+{
+    side_clean(s);
+    for (size_t i = 0; i < w->ready_count; i++)
+        if (trestlepip_number(side_call(s, w->ready + i)) != TRESTLEPIP_ACCEPTED)
+            fail(w->name, "a call that makes the printer ready is refused");
+    damage(s, w->damage);
+    side_keep_state(s);
+}
+
+/* Sense changes the state, so that the state is put back after it. */
+static void compare(const struct work *w)
+{
+    const char *what = sides_differ(&library_side, &plain_side, w->round_count);
+    if (what != NULL) {
+        printf("%s: %s and %s differ in %s\n", w->name, library.name, plain.name, what);
+        exit(1);
+    }
+    side_put_back_state(&library_side);
+    side_put_back_state(&plain_side);
+}
+
+static void expect_numbers(const struct work *w)
+{
+    for (size_t i = 0; i < w->round_count; i++)
+        if (trestlepip_number(library_side.answers[i]) != w->number)
+            fail(w->name, "an answer has another number than the work is to measure");
+}
+
+static void begin(const struct work *w)
+{
+    make_ready(&library_side, w);
+    make_ready(&plain_side, w);
+    side_round(&library_side, w->round, w->round_count);
+    side_round(&plain_side, w->round, w->round_count);
+    expect_numbers(w);
+    compare(w);
+}
+
+/* ---- the times ---- */
+
+static double now(void)
+{
+    struct timespec t;
+    clock_gettime(CLOCK_MONOTONIC, &t);
+    return (double)t.tv_sec * 1e9 + (double)t.tv_nsec;
+}
+
+/* Putting back a state of some 200 bytes takes a few nanoseconds in a round, on both sides alike. */
+static double batch(struct side *s, const struct work *w, unsigned rounds)
+{
+    double from = now();
+    for (unsigned i = 0; i < rounds; i++) {
+        side_put_back_state(s);
+        side_round(s, w->round, w->round_count);
+    }
+    return now() - from;
+}
+
+/* The function by a pointer that the compiler does not see through, so that every copy is made. */
+static double copy_batch(const struct work *w, unsigned rounds)
+{
+    static void *(*volatile copy)(void *, const void *, size_t) = memcpy;
+    static alignas(64) uint8_t to[TRESTLEPIP_PAGE_BYTES];
+    double from = now();
+    for (size_t i = 0; i < rounds * w->round_count; i++)
+        copy(to, library_side.page, w->copied);
+    return now() - from;
+}
+
+/* Enough rounds that the clock does not matter, by the quicker side. */
+static unsigned rounds_of(const struct work *w)
+{
+    unsigned rounds = 1;
+    while (batch(&library_side, w, rounds) < BATCH_NS || batch(&plain_side, w, rounds) < BATCH_NS)
+        rounds++;
+    return rounds;
+}
+
+static double lesser(double a, double b)
+{
+    return a < b ? a : b;
+}
+
+static struct times measure(const struct work *w)
+{
+    unsigned rounds = rounds_of(w);
+    double parts = (double)rounds * w->parts;
+    struct times best = { 1e18, 1e18, w->copied ? 1e18 : 0 };
+    for (unsigned i = 0; i < BATCHES; i++) {
+        best.library = lesser(best.library, batch(&library_side, w, rounds) / parts);
+        best.plain = lesser(best.plain, batch(&plain_side, w, rounds) / parts);
+        if (w->copied != 0)
+            best.copied = lesser(best.copied, copy_batch(w, rounds) / parts);
+    }
+    return best;
+}
+
+/* ---- the table ---- */
+
+static double ratio(struct times t)
+{
+    return t.plain / t.library;
+}
+
+static void print_head(void)
+{
+    printf("Nanoseconds, each the best of %u batches of %u us or more, library and plain C in turn.\n", BATCHES, BATCH_NS / 1000);
+    printf("Ratio: speed of the library over that of plain C, so that 1.00 or more is at least as fast. Memcpy: how many times as long as memcpy of\n");
+    printf("the same bytes the library takes for a composed copy.\n\n");
+    printf("%-60s %10s %10s %6s %7s\n", "", "library", "plain C", "ratio", "memcpy");
+}
+
+static void print_times(const struct work *w, struct times t)
+{
+    printf("%-60s %10.1f %10.1f %6.2f", w->name, t.library, t.plain, ratio(t));
+    if (w->copied != 0)
+        printf(" %7.2f", t.library / t.copied);
+    printf("\n");
+    fflush(stdout);
+}
+
+/* --at-least: whether a work is within both limits; says so if it is not. */
+static bool within(const struct work *w, struct times t, double at_least)
+{
+    bool quick = ratio(t) >= at_least;
+    bool near_memcpy = !w->four_segments || t.library <= MEMCPY_LIMIT * t.copied;
+    if (!quick)
+        printf("    below %.2f\n", at_least);
+    if (at_least > 0 && !near_memcpy)
+        printf("    takes more than %d times memcpy\n", MEMCPY_LIMIT);
+    return at_least <= 0 || (quick && near_memcpy);
+}
+
+static bool measure_all(const struct work *works, size_t count, double at_least)
+{
+    const struct work *least = works;
+    double least_ratio = 1e18;
+    bool good = true;
+    print_head();
+    for (size_t i = 0; i < count; i++) {
+        begin(works + i);
+        struct times t = measure(works + i);
+        compare(works + i);
+        print_times(works + i, t);
+        good &= within(works + i, t, at_least);
+        if (ratio(t) < least_ratio) {
+            least_ratio = ratio(t);
+            least = works + i;
+        }
+    }
+    printf("\nleast ratio %.2f: %s\n", least_ratio, least->name);
+    return good;
+}
+
+static void compare_all(const struct work *works, size_t count)
+{
+    for (size_t i = 0; i < count; i++)
+        begin(works + i);
+    printf("%zu works compared, no difference\n", count);
+}
+
+/* ---- */
+
+static void usage(void)
+{
+    fprintf(stderr, "usage: bench [--compare | --at-least RATIO]\n");
+    exit(2);
+}
+
+static double ratio_of(const char *word)
+{
+    char *end;
+    double r = strtod(word, &end);
+    if (end == word || *end != '\0' || !(r > 0))
+        usage();
+    return r;
+}
+
+static struct options options_of(int count, char **words)
+{
+    struct options o = { false, 0 };
+    if (count == 2 && strcmp(words[1], "--compare") == 0)
+        o.compare_only = true;
+    else if (count == 3 && strcmp(words[1], "--at-least") == 0)
+        o.at_least = ratio_of(words[2]);
+    else if (count != 1)
+        usage();
+    return o;
+}
+
+int main(int count, char **words)
+{
+    static struct work works[WORKS_MOST];
+    struct options o = options_of(count, words);
+    size_t n = works_make(works);
+    if (o.compare_only) {
+        compare_all(works, n);
+        return 0;
+    }
+    return measure_all(works, n, o.at_least) ? 0 : 1;
+}

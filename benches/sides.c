@@ -1,0 +1,73 @@
+#include "sides.h"
+
+#include "plain.h"
+
+#include <string.h>
+
+const struct program library = {
+    "the library", TRESTLEPIP_STATE_BYTES, 12, trestlepip_start, trestlepip_command, trestlepip_compose, trestlepip_release
+};
+const struct program plain = { "plain C", PLAIN_STATE_BYTES, PLAIN_STATE_SELECTED, plain_start, plain_command, plain_compose, plain_release };
+
+/* Bytes that no call writes are to keep this value. */
+enum { UNTOUCHED = 0xA5 };
+
+void side_clean(struct side *s)
+{
+    s->page_len = TRESTLEPIP_PAGE_BYTES;
+    memset(s->state, UNTOUCHED, sizeof s->state);
+    memset(s->page, UNTOUCHED, sizeof s->page);
+    memset(s->legends, UNTOUCHED, sizeof s->legends);
+    memset(s->tables, UNTOUCHED, sizeof s->tables);
+    memset(s->out, UNTOUCHED, sizeof s->out);
+    memset(s->reply, UNTOUCHED, sizeof s->reply);
+}
+
+#define STORES s->state, s->program->state_bytes, s->page, s->page_len, s->legends, sizeof s->legends, s->tables, sizeof s->tables
+
+/* Start fits all four modules. */
+uint64_t side_call(struct side *s, const struct call *c)
+{
+    switch (c->kind) {
+    case CALL_START: return s->program->start(c->number, 10, 10, 12, 15, STORES);
+    case CALL_COMMAND: return s->program->command((uint8_t)c->number, c->record, c->record_len, s->reply, TRESTLEPIP_SENSE_BYTES, STORES);
+    case CALL_COMPOSE: return s->program->compose(c->number, s->out, TRESTLEPIP_PAGE_BYTES, STORES);
+    default: return s->program->release(STORES);
+    }
+}
+
+void side_round(struct side *s, const struct call *calls, size_t count)
+{
+    for (size_t i = 0; i < count; i++)
+        s->answers[i] = side_call(s, calls + i);
+}
+
+void side_keep_state(struct side *s)
+{
+    memcpy(s->kept, s->state, s->program->state_bytes);
+}
+
+void side_put_back_state(struct side *s)
+{
+    memcpy(s->state, s->kept, s->program->state_bytes);
+}
+
+const char *sides_differ(struct side *a, struct side *b, size_t answers)
+{
+    const struct call sense = { CALL_COMMAND, 0x04, NULL, 0 };
+    if (memcmp(a->answers, b->answers, answers * sizeof *a->answers) != 0)
+        return "an answer";
+    if (memcmp(a->page, b->page, sizeof a->page) != 0)
+        return "the page";
+    if (memcmp(a->legends, b->legends, sizeof a->legends) != 0)
+        return "the legends";
+    if (memcmp(a->tables, b->tables, sizeof a->tables) != 0)
+        return "the tables";
+    if (memcmp(a->out, b->out, sizeof a->out) != 0)
+        return "the composed copy, or a byte after it";
+    if (side_call(a, &sense) != side_call(b, &sense))
+        return "the answer to Sense";
+    if (memcmp(a->reply, b->reply, sizeof a->reply) != 0)
+        return "the sense, or a reply byte after it";
+    return NULL;
+}

@@ -1,0 +1,67 @@
+/* The two programs that are timed, the library and plain C, each with stores of its own; and the calls that are made to both. */
+#ifndef SIDES_H
+#define SIDES_H
+
+#include "trestlepip.h"
+
+#include <stdalign.h>
+#include <stdbool.h>
+#include <stddef.h>
+#include <stdint.h>
+
+enum { STATE_ROOM = 256, OUT_ROOM = TRESTLEPIP_PAGE_BYTES + 64, REPLY_ROOM = TRESTLEPIP_SENSE_BYTES + 8, CALLS_MOST = 160 };
+
+enum call_kind { CALL_START, CALL_COMMAND, CALL_COMPOSE, CALL_RELEASE };
+
+/* One call: `number` is the form length of Start, the byte of Command, the index of Compose. The record is Command's. */
+struct call {
+    enum call_kind kind;
+    uint32_t number;
+    const uint8_t *record;
+    size_t record_len;
+};
+
+/* The calls of one program, and two facts about its state. */
+struct program {
+    const char *name;
+    size_t state_bytes;
+    size_t selected_at; /* the place of the selected slot */
+    uint64_t (*start)(uint32_t, uint32_t, uint32_t, uint32_t, uint32_t, uint8_t *, size_t, uint8_t *, size_t, uint8_t *, size_t, uint8_t *, size_t);
+    uint64_t (*command)(uint8_t, const uint8_t *, size_t, uint8_t *, size_t,
+            uint8_t *, size_t, uint8_t *, size_t, uint8_t *, size_t, uint8_t *, size_t);
+    uint64_t (*compose)(uint32_t, uint8_t *, size_t,
+            const uint8_t *, size_t, const uint8_t *, size_t, const uint8_t *, size_t, const uint8_t *, size_t);
+    uint64_t (*release)(uint8_t *, size_t, uint8_t *, size_t, uint8_t *, size_t, uint8_t *, size_t);
+};
+
+extern const struct program library, plain;
+
+/* A printer of one program: the buffers it is lent, the state to put back, and the answers of the latest round. */
+struct side {
+    const struct program *program;
+    size_t page_len;
+    alignas(64) uint8_t state[STATE_ROOM];
+    alignas(64) uint8_t kept[STATE_ROOM];
+    alignas(64) uint8_t page[TRESTLEPIP_PAGE_BYTES];
+    alignas(64) uint8_t legends[TRESTLEPIP_LEGEND_BYTES];
+    alignas(64) uint8_t tables[TRESTLEPIP_TABLE_BYTES];
+    alignas(64) uint8_t out[OUT_ROOM];
+    alignas(64) uint8_t reply[REPLY_ROOM];
+    uint64_t answers[CALLS_MOST];
+};
+
+/* Buffers as no call has touched them. */
+void side_clean(struct side *s);
+
+uint64_t side_call(struct side *s, const struct call *c);
+
+/* Makes the calls in turn; each answer is kept. */
+void side_round(struct side *s, const struct call *calls, size_t count);
+
+void side_keep_state(struct side *s);
+void side_put_back_state(struct side *s);
+
+/* What differs between two sides after the same calls, or NULL; it takes the sense of both to see. */
+const char *sides_differ(struct side *a, struct side *b, size_t answers);
+
+#endif

@@ -1,0 +1,260 @@
+#include "works.h"
+
+#include <stdio.h>
+#include <stdlib.h>
+#include <string.h>
+
+enum { FORM = 264, LINE_MOST = TRESTLEPIP_LINE_CELLS, TEXT = 60, HEAD = 6 };
+
+/* Records live as long as the program. */
+static uint8_t record_room[65536];
+static size_t record_used;
+
+static uint8_t *record_of(size_t size)
+{
+    if (sizeof record_room - record_used < size)
+        abort();
+    record_used += size;
+    return record_room + record_used - size;
+}
+
+/* EBCDIC letters in words of six. */
+static void fill_text(uint8_t *text, size_t size)
+{
+    for (size_t i = 0; i < size; i++)
+        text[i] = i % 7 == 6 ? 0x40 : (uint8_t)(0xC1 + i % 9);
+}
+
+/* An underscore for each letter of such a text. */
+static void fill_underscores(uint8_t *text, size_t size)
+{
+    for (size_t i = 0; i < size; i++)
+        text[i] = i % 7 == 6 ? 0x40 : 0x6D;
+}
+
+/* ---- making a work ---- */
+
+static void ready(struct work *w, enum call_kind kind, uint32_t number, const uint8_t *record, size_t record_len)
+{
+    w->ready[w->ready_count++] = (struct call){ kind, number, record, record_len };
+}
+
+static void measure(struct work *w, enum call_kind kind, uint32_t number, const uint8_t *record, size_t record_len)
+{
+    w->round[w->round_count++] = (struct call){ kind, number, record, record_len };
+}
+
+static void ready_lines(struct work *w, unsigned lines, const uint8_t *text)
+{
+    for (unsigned i = 0; i < lines; i++)
+        ready(w, CALL_COMMAND, 0x09, text, LINE_MOST);
+}
+
+/* The same call over and over, each of them a part. */
+static void measure_often(struct work *w, unsigned times, enum call_kind kind, uint32_t number, const uint8_t *record, size_t record_len)
+{
+    for (unsigned i = 0; i < times; i++)
+        measure(w, kind, number, record, record_len);
+    w->parts = times;
+}
+
+/* Form and forms control: lines per inch as the upper half of an FCB byte. */
+static uint8_t upper_half(unsigned lpi)
+{
+    return lpi == 6 ? 0x00 : lpi == 8 ? 0x10 : 0x30;
+}
+
+/* P on the form of 11 inches, of which a half inch at each end is not printable. */
+static unsigned printable(unsigned lpi)
+{
+    return 10 * lpi;
+}
+
+/* Start, and an FCB of one spacing with channel 1 at line 1. */
+static void ready_form(struct work *w, unsigned form, unsigned lpi)
+{
+    size_t lines = form * lpi / 24;
+    uint8_t *fcb = record_of(lines);
+    memset(fcb, upper_half(lpi), lines);
+    fcb[lpi / 2] |= 1;
+    ready(w, CALL_START, form, NULL, 0);
+    ready(w, CALL_COMMAND, 0x63, fcb, lines);
+}
+
+/* One legend for every copy; k makes its line and position. */
+static void put_segment(uint8_t *to, unsigned k, size_t positions, uint8_t lines)
+{
+    const uint8_t head[HEAD] = { 1, 255, lines == 1 ? (uint8_t)(1 + k) : 1, lines, (uint8_t)(1 + 3 * k % 120), (uint8_t)positions };
+    memcpy(to, head, HEAD);
+    fill_text(to + HEAD, positions);
+}
+
+/* Segments of the usual text, on so many lines each. */
+static void ready_segments(struct work *w, unsigned count, uint8_t lines)
+{
+    uint8_t *record = record_of(count * (HEAD + TEXT));
+    for (unsigned k = 0; k < count; k++)
+        put_segment(record + k * (HEAD + TEXT), k, TEXT, lines);
+    if (count != 0)
+        ready(w, CALL_COMMAND, 0x35, record, count * (HEAD + TEXT));
+}
+
+/* A record of exactly so many bytes: segments of the usual text but for the last two, which share what is left. */
+static uint8_t *legends_of(size_t bytes)
+{
+    uint8_t *record = record_of(bytes);
+    size_t at = 0;
+    for (unsigned k = 0; at < bytes; k++) {
+        size_t left = bytes - at, whole = HEAD + TEXT;
+        size_t size = left >= 2 * whole || left == whole ? whole : left > whole ? left / 2 : left;
+        put_segment(record + at, k, size - HEAD, 1);
+        at += size;
+    }
+    return record;
+}
+
+/* ---- the works ---- */
+
+struct making {
+    struct work *works;
+    size_t count;
+    uint8_t text[LINE_MOST];
+    uint8_t underscores[LINE_MOST];
+};
+
+static struct work *next_work(struct making *m)
+{
+    if (m->count == WORKS_MOST)
+        abort();
+    return m->works + m->count++;
+}
+
+/* The last line stays free: a round ends before the page is complete, and putting back the state is all it takes to begin anew. */
+static void make_write(struct making *m, size_t bytes, unsigned lpi)
+{
+    struct work *w = next_work(m);
+    snprintf(w->name, sizeof w->name, "write and space 1, %zu bytes, %u lines per inch", bytes, lpi);
+    ready_form(w, FORM, lpi);
+    measure_often(w, printable(lpi) - 1, CALL_COMMAND, 0x09, m->text, bytes);
+}
+
+static void make_pair(struct making *m, size_t bytes)
+{
+    struct work *w = next_work(m);
+    snprintf(w->name, sizeof w->name, "two writes on a line, 01 then 09, %zu bytes", bytes);
+    ready_form(w, FORM, 6);
+    w->parts = printable(6) - 1;
+    for (unsigned i = 0; i < w->parts; i++) {
+        measure(w, CALL_COMMAND, 0x01, m->text, bytes);
+        measure(w, CALL_COMMAND, 0x09, m->underscores, bytes);
+    }
+}
+
+/* On a form of 12 inches, where 60 lines leave the page to be completed by the skip. */
+static void make_page(struct making *m)
+{
+    static const uint8_t three_copies[] = { 3, 0 };
+    struct work *w = next_work(m);
+    snprintf(w->name, sizeof w->name, "page: 60 writes, skip, 3 copies with 4 legends, release");
+    ready_form(w, 288, 6);
+    ready(w, CALL_COMMAND, 0x43, three_copies, sizeof three_copies);
+    ready_segments(w, 4, 1);
+    measure_often(w, 60, CALL_COMMAND, 0x09, m->text, 132);
+    measure(w, CALL_COMMAND, 0x8B, NULL, 0);
+    for (uint32_t copy = 1; copy <= 3; copy++)
+        measure(w, CALL_COMPOSE, copy, NULL, 0);
+    measure(w, CALL_RELEASE, 0, NULL, 0);
+    w->parts = 1;
+}
+
+/* A refusal on a printer with no legends, on a page that waits or is empty. */
+static struct work *make_refusal(struct making *m, unsigned number, const char *how, bool waiting, struct call c)
+{
+    struct work *w = next_work(m);
+    snprintf(w->name, sizeof w->name, "refusal %u: %s", number, how);
+    ready_form(w, FORM, 6);
+    if (waiting) {
+        ready_lines(w, 1, m->text);
+        ready(w, CALL_COMMAND, 0x87, NULL, 0);
+    }
+    w->number = number;
+    measure_often(w, 100, c.kind, c.number, c.record, c.record_len);
+    return w;
+}
+
+static void make_refusals(struct making *m)
+{
+    const struct call write = { CALL_COMMAND, 0x09, m->text, 132 };
+    make_refusal(m, 1, "byte FF", false, (struct call){ CALL_COMMAND, 0xFF, NULL, 0 });
+    make_refusal(m, 2, "write of 0 bytes", false, (struct call){ CALL_COMMAND, 0x09, NULL, 0 });
+    make_refusal(m, 4, "write while a page waits", true, write);
+    make_refusal(m, 6, "release with no page waiting", false, (struct call){ CALL_RELEASE, 0, NULL, 0 });
+    make_refusal(m, 7, "copy 2 of one", true, (struct call){ CALL_COMPOSE, 2, NULL, 0 });
+    make_refusal(m, 9, "page of a wrong size", false, write)->damage = SHORT_PAGE;
+    make_refusal(m, 9, "selected slot 4", false, write)->damage = BAD_SELECTION;
+    make_refusal(m, 9, "last byte of the legends set", false, write)->damage = LAST_LEGEND_BYTE;
+}
+
+static void make_compose(struct making *m, unsigned segments, uint8_t lines, unsigned lpi)
+{
+    struct work *w = next_work(m);
+    snprintf(w->name, sizeof w->name, "compose, %u segments on %s, %u lines per inch", segments, lines == 1 ? "a line each" : "every line", lpi);
+    ready_form(w, FORM, lpi);
+    ready_segments(w, segments, lines);
+    ready_lines(w, printable(lpi) - 1, m->text);
+    ready(w, CALL_COMMAND, 0x87, NULL, 0);
+    measure_often(w, 20, CALL_COMPOSE, 1, NULL, 0);
+    w->copied = (size_t)printable(lpi) * LINE_MOST;
+    w->four_segments = segments == 4;
+}
+
+static void make_load(struct making *m)
+{
+    struct work *w = next_work(m);
+    snprintf(w->name, sizeof w->name, "load of %u bytes of legends", TRESTLEPIP_LEGEND_BYTES);
+    ready_form(w, FORM, 6);
+    measure_often(w, 10, CALL_COMMAND, 0x35, legends_of(TRESTLEPIP_LEGEND_BYTES), TRESTLEPIP_LEGEND_BYTES);
+}
+
+static void make_with_legends(struct making *m, const char *what, uint8_t byte, size_t record_len, size_t bytes)
+{
+    struct work *w = next_work(m);
+    snprintf(w->name, sizeof w->name, "%s, legends of %zu bytes", what, bytes);
+    ready_form(w, FORM, 6);
+    if (bytes != 0)
+        ready(w, CALL_COMMAND, 0x35, legends_of(bytes), bytes);
+    measure_often(w, printable(6) - 1, CALL_COMMAND, byte, m->text, record_len);
+}
+
+static void make_growth(struct making *m, const char *what, uint8_t byte, size_t record_len)
+{
+    static const size_t sizes[] = { 0, 512, 1024, 2048, 4096, 8192 };
+    for (size_t i = 0; i < sizeof sizes / sizeof *sizes; i++)
+        make_with_legends(m, what, byte, record_len, sizes[i]);
+}
+
+size_t works_make(struct work *works)
+{
+    static struct making m;
+    m.works = works;
+    fill_text(m.text, sizeof m.text);
+    fill_underscores(m.underscores, sizeof m.underscores);
+    make_write(&m, 132, 6);
+    make_write(&m, 132, 8);
+    make_write(&m, 204, 6);
+    make_write(&m, 204, 8);
+    make_pair(&m, 132);
+    make_pair(&m, 204);
+    make_page(&m);
+    make_refusals(&m);
+    make_compose(&m, 0, 1, 6);
+    make_compose(&m, 4, 1, 6);
+    make_compose(&m, 40, 1, 6);
+    make_compose(&m, 40, 255, 6);
+    make_compose(&m, 4, 1, 8);
+    make_compose(&m, 4, 1, 12);
+    make_load(&m);
+    make_growth(&m, "write and space 1, 132 bytes", 0x09, 132);
+    make_growth(&m, "No-Op", 0x03, 0);
+    return m.count;
+}
