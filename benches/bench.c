@@ -151,8 +151,8 @@ static double ratio(struct times t)
 static void print_head(void)
 {
     printf("Nanoseconds, each the best of %u batches of %u us or more, library and plain C in turn.\n", BATCHES, BATCH_NS / 1000);
-    printf("Ratio: speed of the library over that of plain C, so that 1.00 or more is at least as fast. Memcpy: how many times as long as memcpy of\n");
-    printf("the same bytes the library takes for a composed copy.\n\n");
+    printf("Ratio: speed of the library over that of plain C, so that 1.00 or more is at least as fast.\n");
+    printf("Memcpy: how many times as long as memcpy of the same bytes the library takes for a composed copy.\n\n");
     printf("%-60s %10s %10s %6s %7s\n", "", "library", "plain C", "ratio", "memcpy");
 }
 

@@ -65,10 +65,9 @@ static inline void look_up(uint8_t *cells, const uint8_t *bytes, size_t n, const
         cells[i] = table[bytes[i]];
 }
 
-/* Bytes to codes: a pass that looks up, one that tests, and one that puts stand-ins only where there is something unprintable. */
-static inline unsigned translate(uint8_t *cells, const uint8_t *bytes, size_t n, unsigned pitches, const uint8_t *table)
+/* Stand-ins, in a pass that is made only where something is unprintable. */
+static inline unsigned replace_unprintable(uint8_t *cells, size_t n, unsigned pitches, const uint8_t *table)
 {
-    look_up(cells, bytes, n, table);
     if (!any_unprintable(cells, n, pitches))
         return 0;
     const uint8_t other = stand_in(pitches, table);
@@ -100,7 +99,8 @@ static inline unsigned merge(uint8_t *restrict line, const uint8_t *restrict cel
 static inline unsigned fill_line(uint8_t *cells, const uint8_t *bytes, size_t n, unsigned pitches, const uint8_t *table)
 {
     memset(cells, stand_in(pitches, table), LINE_CELLS);
-    return translate(cells, bytes, n, pitches, table);
+    look_up(cells, bytes, n, table);
+    return replace_unprintable(cells, n, pitches, table);
 }
 
 /* The first write on a line goes straight to the page; a later one is made aside and merged. Gives the causes. */

@@ -119,8 +119,10 @@ static inline unsigned load_legends(const struct printer *p, const uint8_t *reco
     unsigned causes = loaded(p) ? 0 : UNLOADED;
     for (size_t at = 0; at < n; at += segment_size(record + at)) {
         memcpy(legends + at, record + at, SEGMENT_HEAD);
-        causes |= translate(legends + at + SEGMENT_HEAD, record + at + SEGMENT_HEAD, record[at + POSITIONS], p->pitches, table);
+        look_up(legends + at + SEGMENT_HEAD, record + at + SEGMENT_HEAD, record[at + POSITIONS], table);
     }
+    for (size_t at = 0; at < n; at += segment_size(record + at))
+        causes |= replace_unprintable(legends + at + SEGMENT_HEAD, record[at + POSITIONS], p->pitches, table);
     memset(legends + n, 0, LEGEND_BYTES - n);
     return causes;
 }
