@@ -169,12 +169,12 @@ static void print_times(const struct work *w, struct times t)
 static bool within(const struct work *w, struct times t, double at_least)
 {
     bool quick = ratio(t) >= at_least;
-    bool near_memcpy = !w->four_segments || t.library <= MEMCPY_LIMIT * t.copied;
+    bool near_memcpy = !w->limited || t.library <= MEMCPY_LIMIT * t.copied;
     if (!quick)
         printf("    below %.2f\n", at_least);
-    if (at_least > 0 && !near_memcpy)
+    if (!near_memcpy)
         printf("    takes more than %d times memcpy\n", MEMCPY_LIMIT);
-    return at_least <= 0 || (quick && near_memcpy);
+    return quick && near_memcpy;
 }
 
 static bool measure_all(const struct work *works, size_t count, double at_least)
@@ -188,7 +188,8 @@ static bool measure_all(const struct work *works, size_t count, double at_least)
         struct times t = measure(works + i);
         compare(works + i);
         print_times(works + i, t);
-        good &= within(works + i, t, at_least);
+        if (at_least > 0)
+            good &= within(works + i, t, at_least);
         if (ratio(t) < least_ratio) {
             least_ratio = ratio(t);
             least = works + i;

@@ -165,51 +165,51 @@ static uint64_t initialize(struct printer *p, uint8_t *legends, uint8_t *tables)
 
 static uint64_t sense(struct printer *p, uint8_t *reply, size_t reply_len)
 {
-    if (reply_len < REPLY_BYTES)
-        return answer(8, 0);
+    if (reply_len < TRESTLEPIP_SENSE_BYTES)
+        return answer(TRESTLEPIP_TOO_SHORT, 0);
     bool idle = !page_started(p) && (p->flags & WAITING) == 0;
-    memset(reply, 0, REPLY_BYTES);
+    memset(reply, 0, TRESTLEPIP_SENSE_BYTES);
     memcpy(reply, p->sense, 3);
     reply[3] = (uint8_t)(0x80 | (idle ? 0x40 : 0) | (p->flags & BLOCKED ? 0x20 : 0));
     memcpy(reply + 22, p->sense + 3, 2);
-    memset(p->sense, 0, SENSE_BYTES);
-    return answer(0, 0x0C);
+    memset(p->sense, 0, SENSE_KEPT);
+    return answer(TRESTLEPIP_ACCEPTED, 0x0C);
 }
 
-static enum cause load_cause(const struct printer *p, unsigned kind, const uint8_t *record, size_t n)
+static enum trestlepip_causes load_cause(const struct printer *p, unsigned kind, const uint8_t *record, size_t n)
 {
     switch (kind) {
     case LOAD_FCB: return fcb_cause(p->halves, record, n);
-    case LOAD_TABLE: return n < SLOT_BYTES ? TABLE_SHORT : NO_CAUSE;
+    case LOAD_TABLE: return n < SLOT_BYTES ? TRESTLEPIP_TABLE_SHORT : TRESTLEPIP_NO_CAUSE;
     case LOAD_LEGENDS: return legends_cause(record, n);
     case LOAD_SEQUENCE: return sequence_cause(record, n);
-    default: return n == 1 && record[0] != 0 ? NO_CAUSE : NUMBER_RECORD;
+    default: return n == 1 && record[0] != 0 ? TRESTLEPIP_NO_CAUSE : TRESTLEPIP_NUMBER_RECORD;
     }
 }
 
 /* Numbers, 3: each cause has its bit in sense byte 1 or 2; a wrong sum shows the record's byte count. */
-static uint64_t load_check(struct printer *p, enum cause cause, size_t n)
+static uint64_t load_check(struct printer *p, enum trestlepip_causes cause, size_t n)
 {
     static const uint8_t byte_1[] = { 0, 0x10, 0x40, 0x08, 0x20, 0x80, 0x80, 0x00, 0x80, 0x80, 0x00 };
-    set_sense(p, 0x02, byte_1[cause], cause == SEQUENCE_COUNTS ? 0x10 : cause == SEGMENT_FIELDS ? 0x20 : 0x00);
-    if (cause == FCB_SUM) {
+    set_sense(p, 0x02, byte_1[cause], cause == TRESTLEPIP_SEQUENCE_COUNTS ? 0x10 : cause == TRESTLEPIP_SEGMENT_FIELDS ? 0x20 : 0x00);
+    if (cause == TRESTLEPIP_FCB_SUM) {
         p->sense[3] = (uint8_t)(n >> 8);
         p->sense[4] = (uint8_t)n;
     }
-    return answer(3, 0x0E) | (uint64_t)cause << 18;
+    return answer(TRESTLEPIP_LOAD_CHECK, 0x0E) | (uint64_t)cause << 18;
 }
 
 /* Numbers: the order 2, 5, 3 of a load. */
 static uint64_t load(struct printer *p, unsigned kind, const uint8_t *record, size_t n, uint8_t *legends, uint8_t *tables)
 {
     if (n > LOAD_MOST)
-        return answer(2, 0);
+        return answer(TRESTLEPIP_BAD_RECORD, 0);
     if (page_started(p)) {
         set_sense(p, 0x02, 0, 0);
-        return answer(5, 0x0E);
+        return answer(TRESTLEPIP_PAGE_STARTED, 0x0E);
     }
-    enum cause cause = load_cause(p, kind, record, n);
-    if (cause != NO_CAUSE)
+    enum trestlepip_causes cause = load_cause(p, kind, record, n);
+    if (cause != TRESTLEPIP_NO_CAUSE)
         return load_check(p, cause, n);
     unsigned causes = 0;
     switch (kind) {
@@ -243,22 +243,22 @@ uint64_t plain_command(uint8_t command,
 {
     unsigned lines = checked(state, state_len, page_len, legends, legends_len, tables_len);
     if (lines == 0)
-        return answer(9, 0);
+        return answer(TRESTLEPIP_BAD_STORE, 0);
     struct printer *p = (struct printer *)state;
     struct command c = commands[command];
     if (c.kind == UNLISTED) {
         set_sense(p, 0x80, 0x80, 0);
-        return answer(1, 0x0E);
+        return answer(TRESTLEPIP_NOT_LISTED, 0x0E);
     }
     if (c.kind == NO_OP)
-        return answer(0, 0x0C);
+        return answer(TRESTLEPIP_ACCEPTED, 0x0C);
     if (c.kind == SENSE)
         return sense(p, reply, reply_len);
     if (p->flags & WAITING)
-        return answer(4, 0x10);
+        return answer(TRESTLEPIP_PAGE_WAITING, 0x10);
     if (c.kind == WRITE_SPACE || c.kind == WRITE_SKIP) {
         if (record_len == 0 || record_len > LINE_CELLS)
-            return answer(2, 0);
+            return answer(TRESTLEPIP_BAD_RECORD, 0);
         return write_and_move(p, c, lines, record, record_len, page, tables);
     }
     if (c.kind == SPACE_NOW || c.kind == SKIP_NOW)
@@ -287,20 +287,20 @@ uint64_t plain_start(uint32_t form,
         uint8_t *legends, size_t legends_len, uint8_t *tables, size_t tables_len)
 {
     if (state_len != PLAIN_STATE_BYTES)
-        return answer(9, 0);
+        return answer(TRESTLEPIP_BAD_STORE, 0);
     struct printer *p = (struct printer *)state;
     memset(p, 0, sizeof *p);
     if (page_len != PAGE_BYTES || legends_len != LEGEND_BYTES || tables_len != TABLE_BYTES)
-        return answer(9, 0);
+        return answer(TRESTLEPIP_BAD_STORE, 0);
     const unsigned bits[4] = { pitch_bits(pitch0), pitch_bits(pitch1), pitch_bits(pitch2), pitch_bits(pitch3) };
     bool listed = form % HALF_INCH == 0 && halves_listed(form / HALF_INCH);
     if (!listed || bits[0] == 0 || (bits[0] | bits[1] | bits[2] | bits[3]) > 3)
-        return answer(10, 0);
+        return answer(TRESTLEPIP_BAD_FORM, 0);
     p->halves = (uint8_t)(form / HALF_INCH);
     p->pitches = (uint8_t)(bits[0] | bits[1] << 2 | bits[2] << 4 | bits[3] << 6);
     memset(page, 0, PAGE_BYTES);
     reset(p, legends, tables);
-    return answer(0, 0);
+    return answer(TRESTLEPIP_ACCEPTED, 0);
 }
 
 /* Copies and legends: the text on each line of the segment that the form has. By memmove, which the compiler leaves to the C library: of a memcpy of
@@ -342,15 +342,15 @@ uint64_t plain_compose(uint32_t copy,
     (void)tables;
     unsigned lines = checked(state, state_len, page_len, legends, legends_len, tables_len);
     if (lines == 0)
-        return answer(9, 0);
+        return answer(TRESTLEPIP_BAD_STORE, 0);
     const struct printer *p = (const struct printer *)state;
     if ((p->flags & WAITING) == 0)
-        return answer(6, 0);
+        return answer(TRESTLEPIP_NO_PAGE, 0);
     if (copy == 0 || copy > p->ends[p->pairs - 1])
-        return answer(7, 0);
+        return answer(TRESTLEPIP_BAD_INDEX, 0);
     size_t bytes = (size_t)lines * LINE_CELLS;
     if (out_len < bytes)
-        return answer(8, 0);
+        return answer(TRESTLEPIP_TOO_SHORT, 0);
     unsigned number = p->reference + copy - 1;
     memcpy(out, page, bytes);
     paint_all(out, legends, number, lines);
@@ -363,14 +363,14 @@ uint64_t plain_release(
         uint8_t *legends, size_t legends_len, uint8_t *tables, size_t tables_len)
 {
     if (checked(state, state_len, page_len, legends, legends_len, tables_len) == 0)
-        return answer(9, 0);
+        return answer(TRESTLEPIP_BAD_STORE, 0);
     struct printer *p = (struct printer *)state;
     if ((p->flags & WAITING) == 0)
-        return answer(6, 0);
+        return answer(TRESTLEPIP_NO_PAGE, 0);
     memset(page, 0, PAGE_BYTES);
     bool due = (p->flags & DUE) != 0;
     p->flags &= (uint8_t)~(WAITING | DUE);
     if (due)
         reset(p, legends, tables);
-    return answer(0, 0);
+    return answer(TRESTLEPIP_ACCEPTED, 0);
 }

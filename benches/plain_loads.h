@@ -4,10 +4,6 @@
 
 #include "plain_line.h"
 
-enum cause {
-    NO_CAUSE, FCB_CHANNEL, FCB_SPACING, FCB_SUM, FCB_EDGE, TABLE_SHORT, SEQUENCE_PAIRS, SEQUENCE_COUNTS, NUMBER_RECORD, SEGMENT_ENDS, SEGMENT_FIELDS
-};
-
 /* Form and forms control: a line's units by its upper half, 0 where that is no spacing. */
 static const uint8_t units[16] = { 4, 3, 0, 2 };
 
@@ -47,17 +43,17 @@ static inline size_t lines_in_half(uint8_t fcb_byte)
     return HALF_INCH / (size_t)units[fcb_byte >> 4];
 }
 
-static inline enum cause fcb_cause(unsigned halves, const uint8_t *fcb, size_t n)
+static inline enum trestlepip_causes fcb_cause(unsigned halves, const uint8_t *fcb, size_t n)
 {
     if (any_channel_above_12(fcb, n))
-        return FCB_CHANNEL;
+        return TRESTLEPIP_FCB_CHANNEL;
     int sum = sum_of_units(fcb, n);
     if (sum == FCB_ODD)
-        return FCB_SPACING;
+        return TRESTLEPIP_FCB_SPACING;
     if (sum != (int)halves * HALF_INCH)
-        return FCB_SUM;
+        return TRESTLEPIP_FCB_SUM;
     size_t last = lines_in_half(fcb[n - 1]);
-    return any_channel(fcb, lines_in_half(fcb[0])) || any_channel(fcb + n - last, last) ? FCB_EDGE : NO_CAUSE;
+    return any_channel(fcb, lines_in_half(fcb[0])) || any_channel(fcb + n - last, last) ? TRESTLEPIP_FCB_EDGE : TRESTLEPIP_NO_CAUSE;
 }
 
 /* The record has been judged: every half inch has one spacing. The form goes to line 1. */
@@ -76,17 +72,17 @@ static inline void load_fcb(struct printer *p, const uint8_t *fcb, size_t n)
     p->line = 1;
 }
 
-static inline enum cause sequence_cause(const uint8_t *pairs, size_t n)
+static inline enum trestlepip_causes sequence_cause(const uint8_t *pairs, size_t n)
 {
     if (n == 0 || n > 2 * PAIRS || n % 2 != 0)
-        return SEQUENCE_PAIRS;
+        return TRESTLEPIP_SEQUENCE_PAIRS;
     unsigned total = 0;
     bool bad = false;
     for (size_t i = 0; i < n; i += 2) {
         bad |= pairs[i] == 0 || pairs[i + 1] > 1;
         total += pairs[i];
     }
-    return bad || total > 255 ? SEQUENCE_COUNTS : NO_CAUSE;
+    return bad || total > 255 ? TRESTLEPIP_SEQUENCE_COUNTS : TRESTLEPIP_NO_CAUSE;
 }
 
 static inline void load_sequence(struct printer *p, const uint8_t *pairs, size_t n)
@@ -102,14 +98,14 @@ static inline void load_sequence(struct printer *p, const uint8_t *pairs, size_t
     p->marks = (uint8_t)marks;
 }
 
-static inline enum cause legends_cause(const uint8_t *record, size_t n)
+static inline enum trestlepip_causes legends_cause(const uint8_t *record, size_t n)
 {
     if (n == 0)
-        return SEGMENT_ENDS;
+        return TRESTLEPIP_SEGMENT_ENDS;
     size_t end = sound_end(record, n);
     if (end == n)
-        return NO_CAUSE;
-    return n - end < SEGMENT_HEAD || !head_bad(record + end) ? SEGMENT_ENDS : SEGMENT_FIELDS;
+        return TRESTLEPIP_NO_CAUSE;
+    return n - end < SEGMENT_HEAD || !head_bad(record + end) ? TRESTLEPIP_SEGMENT_ENDS : TRESTLEPIP_SEGMENT_FIELDS;
 }
 
 /* The segments with their text through the table, then 00. Gives the causes. */

@@ -3,20 +3,20 @@
 #define PLAIN_STATE_H
 
 #include "plain.h"
+#include "trestlepip.h"
 
 #include <stdbool.h>
 #include <string.h>
 
 enum {
-    LINE_CELLS = 204,
-    PAGE_BYTES = 132 * LINE_CELLS,
-    LEGEND_BYTES = 8192,
-    SLOT_BYTES = 256,
-    TABLE_BYTES = 4 * SLOT_BYTES,
-    REPLY_BYTES = 24,
-    LOAD_MOST = 8192,
+    LINE_CELLS = TRESTLEPIP_LINE_CELLS,
+    PAGE_BYTES = TRESTLEPIP_PAGE_BYTES,
+    LEGEND_BYTES = TRESTLEPIP_LEGEND_BYTES,
+    TABLE_BYTES = TRESTLEPIP_TABLE_BYTES,
+    SLOT_BYTES = TABLE_BYTES / 4,
+    LOAD_MOST = LEGEND_BYTES,
     PAIRS = 8,
-    SENSE_BYTES = 5,
+    SENSE_KEPT = 5,
     HALF_INCH = 12,
     HALVES = 32,    /* half inches: 24 at most, rounded up to whole vectors */
     CHANNELS = 144, /* printable lines: 132 at most, likewise */
@@ -42,7 +42,7 @@ struct printer {
     uint8_t ends[PAIRS];        /* the index of each pair's last copy, 00 after the pairs */
     uint8_t spacing[HALVES];    /* lines in each half inch, 00 after the form */
     uint8_t channel[CHANNELS];  /* of each printable line, 00 after the last */
-    uint8_t sense[SENSE_BYTES]; /* bytes 0, 1, 2, 22, 23 */
+    uint8_t sense[SENSE_KEPT];  /* bytes 0, 1, 2, 22, 23 */
 };
 
 _Static_assert(sizeof(struct printer) == PLAIN_STATE_BYTES, "the state has no padding");

@@ -25,11 +25,11 @@ static void fill_text(uint8_t *text, size_t size)
         text[i] = i % 7 == 6 ? 0x40 : (uint8_t)(0xC1 + i % 9);
 }
 
-/* An underscore for each letter of such a text. */
-static void fill_underscores(uint8_t *text, size_t size)
+/* What is written over such a text with no collision: an underscore, a blank, a letter, the last over a blank or the same letter. */
+static void fill_overprint(uint8_t *text, size_t size)
 {
     for (size_t i = 0; i < size; i++)
-        text[i] = i % 7 == 6 ? 0x40 : 0x6D;
+        text[i] = i % 3 == 0 ? 0x6D : i % 3 == 1 ? 0x40 : (uint8_t)(0xC1 + i % 9);
 }
 
 /* ---- making a work ---- */
@@ -119,7 +119,7 @@ struct making {
     struct work *works;
     size_t count;
     uint8_t text[LINE_MOST];
-    uint8_t underscores[LINE_MOST];
+    uint8_t overprint[LINE_MOST];
 };
 
 static struct work *next_work(struct making *m)
@@ -146,7 +146,7 @@ static void make_pair(struct making *m, size_t bytes)
     w->parts = printable(6) - 1;
     for (unsigned i = 0; i < w->parts; i++) {
         measure(w, CALL_COMMAND, 0x01, m->text, bytes);
-        measure(w, CALL_COMMAND, 0x09, m->underscores, bytes);
+        measure(w, CALL_COMMAND, 0x09, m->overprint, bytes);
     }
 }
 
@@ -195,6 +195,7 @@ static void make_refusals(struct making *m)
     make_refusal(m, 9, "last byte of the legends set", false, write)->damage = LAST_LEGEND_BYTE;
 }
 
+/* Four segments at 6 lines per inch have a limit: page, copy and legends together stay in the first cache there, as those of memcpy do. */
 static void make_compose(struct making *m, unsigned segments, uint8_t lines, unsigned lpi)
 {
     struct work *w = next_work(m);
@@ -205,7 +206,7 @@ static void make_compose(struct making *m, unsigned segments, uint8_t lines, uns
     ready(w, CALL_COMMAND, 0x87, NULL, 0);
     measure_often(w, 20, CALL_COMPOSE, 1, NULL, 0);
     w->copied = (size_t)printable(lpi) * LINE_MOST;
-    w->four_segments = segments == 4;
+    w->limited = segments == 4 && lpi == 6;
 }
 
 static void make_load(struct making *m)
@@ -238,7 +239,7 @@ size_t works_make(struct work *works)
     static struct making m;
     m.works = works;
     fill_text(m.text, sizeof m.text);
-    fill_underscores(m.underscores, sizeof m.underscores);
+    fill_overprint(m.overprint, sizeof m.overprint);
     make_write(&m, 132, 6);
     make_write(&m, 132, 8);
     make_write(&m, 204, 6);

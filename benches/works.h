@@ -15,9 +15,9 @@ struct work {
     struct call round[CALLS_MOST]; /* all get `number` */
     size_t round_count;
     unsigned number;
-    unsigned parts;      /* how many times the round does what the name says */
-    size_t copied;       /* the bytes of a composed copy, else 0 */
-    bool four_segments;  /* compose with four segments, for which --at-least has a limit */
+    unsigned parts; /* how many times the round does what the name says */
+    size_t copied;  /* the bytes of a composed copy, else 0 */
+    bool limited;   /* by the time that memcpy takes for those bytes: MEMCPY_LIMIT of bench.c */
 };
 
 enum { WORKS_MOST = 48 };
