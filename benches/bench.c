@@ -1,6 +1,7 @@
 /*
  * The library's times beside those of plain C, through the same interface. Each work is first done by both and compared, and again after its
- * times were taken. Entries take turns, batch by batch, and the best batch of each counts, so that what else the machine does matters least.
+ * times were taken. Entries take turns, batch by batch, all works are gone through several times, and the best batch of each entry counts, so that
+ * what else the machine does matters least.
  */
 #define _POSIX_C_SOURCE 199309L
 #include "works.h"
@@ -10,14 +11,17 @@
 #include <string.h>
 #include <time.h>
 
-enum { BATCHES = 1000, BATCH_NS = 25000, MEMCPY_LIMIT = 3 };
+enum { PASSES = 10, BATCHES = 100, BATCH_NS = 25000, MEMCPY_LIMIT = 3 };
 
 static struct side library_side = { .program = &library }, plain_side = { .program = &plain };
 
-/* Nanoseconds of one part of a work; that of memcpy where the work composes, else 0. */
+/* Nanoseconds of one part of a work, and of memcpy where the work composes. */
 struct times {
     double library, plain, copied;
 };
+
+/* A time that any other is less than. */
+#define NEVER 1e18
 
 struct options {
     bool compare_only;
@@ -127,18 +131,34 @@ static double lesser(double a, double b)
     return a < b ? a : b;
 }
 
-static struct times measure(const struct work *w)
+static void take_times(const struct work *w, struct times *best)
 {
     unsigned rounds = rounds_of(w);
     double parts = (double)rounds * w->parts;
-    struct times best = { 1e18, 1e18, w->copied ? 1e18 : 0 };
     for (unsigned i = 0; i < BATCHES; i++) {
-        best.library = lesser(best.library, batch(&library_side, w, rounds) / parts);
-        best.plain = lesser(best.plain, batch(&plain_side, w, rounds) / parts);
+        best->library = lesser(best->library, batch(&library_side, w, rounds) / parts);
+        best->plain = lesser(best->plain, batch(&plain_side, w, rounds) / parts);
         if (w->copied != 0)
-            best.copied = lesser(best.copied, copy_batch(w, rounds) / parts);
+            best->copied = lesser(best->copied, copy_batch(w, rounds) / parts);
     }
-    return best;
+}
+
+/* Every work once. */
+static void pass(const struct work *works, size_t count, struct times *best)
+{
+    for (size_t i = 0; i < count; i++) {
+        begin(works + i);
+        take_times(works + i, best + i);
+        compare(works + i);
+    }
+}
+
+static void measure_all(const struct work *works, size_t count, struct times *best)
+{
+    for (size_t i = 0; i < count; i++)
+        best[i] = (struct times){ NEVER, NEVER, NEVER };
+    for (unsigned i = 0; i < PASSES; i++)
+        pass(works, count, best);
 }
 
 /* ---- the table ---- */
@@ -150,7 +170,7 @@ static double ratio(struct times t)
 
 static void print_head(void)
 {
-    printf("Nanoseconds, each the best of %u batches of %u us or more, library and plain C in turn.\n", BATCHES, BATCH_NS / 1000);
+    printf("Nanoseconds, each the best of %u batches of %u us or more, library and plain C in turn.\n", PASSES * BATCHES, BATCH_NS / 1000);
     printf("Ratio: speed of the library over that of plain C, so that 1.00 or more is at least as fast.\n");
     printf("Memcpy: how many times as long as memcpy of the same bytes the library takes for a composed copy.\n\n");
     printf("%-60s %10s %10s %6s %7s\n", "", "library", "plain C", "ratio", "memcpy");
@@ -162,7 +182,6 @@ static void print_times(const struct work *w, struct times t)
     if (w->copied != 0)
         printf(" %7.2f", t.library / t.copied);
     printf("\n");
-    fflush(stdout);
 }
 
 /* --at-least: whether a work is within both limits; says so if it is not. */
@@ -177,25 +196,19 @@ static bool within(const struct work *w, struct times t, double at_least)
     return quick && near_memcpy;
 }
 
-static bool measure_all(const struct work *works, size_t count, double at_least)
+static bool print_table(const struct work *works, size_t count, const struct times *best, double at_least)
 {
-    const struct work *least = works;
-    double least_ratio = 1e18;
+    size_t least = 0;
     bool good = true;
     print_head();
     for (size_t i = 0; i < count; i++) {
-        begin(works + i);
-        struct times t = measure(works + i);
-        compare(works + i);
-        print_times(works + i, t);
+        print_times(works + i, best[i]);
         if (at_least > 0)
-            good &= within(works + i, t, at_least);
-        if (ratio(t) < least_ratio) {
-            least_ratio = ratio(t);
-            least = works + i;
-        }
+            good &= within(works + i, best[i], at_least);
+        if (ratio(best[i]) < ratio(best[least]))
+            least = i;
     }
-    printf("\nleast ratio %.2f: %s\n", least_ratio, least->name);
+    printf("\nleast ratio %.2f: %s\n", ratio(best[least]), works[least].name);
     return good;
 }
 
@@ -238,11 +251,13 @@ static struct options options_of(int count, char **words)
 int main(int count, char **words)
 {
     static struct work works[WORKS_MOST];
+    static struct times best[WORKS_MOST];
     struct options o = options_of(count, words);
     size_t n = works_make(works);
     if (o.compare_only) {
         compare_all(works, n);
         return 0;
     }
-    return measure_all(works, n, o.at_least) ? 0 : 1;
+    measure_all(works, n, best);
+    return print_table(works, n, best, o.at_least) ? 0 : 1;
 }

@@ -58,23 +58,21 @@ static inline bool halves_listed(unsigned halves)
 #define EIGHT(v) v, v, v, v, v, v, v, v
 #define SIXTEEN(v) EIGHT(v), EIGHT(v)
 
-/* 1 for a half inch of the form and 0 for one after it, read from HALVES - halves on. */
-static const uint8_t in_form[2 * HALVES] = { SIXTEEN(1), SIXTEEN(1) };
+/* The fewest lines of a half inch, 0 after the form, read from HALVES - halves on. */
+static const uint8_t fewest[2 * HALVES] = { SIXTEEN(3), SIXTEEN(3) };
 
 /* The greatest channel of a line, 0 after line P, read from CHANNELS - P on. */
 static const uint8_t most[2 * CHANNELS] = {
     SIXTEEN(12), SIXTEEN(12), SIXTEEN(12), SIXTEEN(12), SIXTEEN(12), SIXTEEN(12), SIXTEEN(12), SIXTEEN(12), SIXTEEN(12)
 };
 
-/* 3, 4 and 6 lines in the half inches of the form, none after them. */
+/* From 3 to 6 lines but 5, and from 0 to 0 after the form: the fewest are as many as there may be more. */
 static inline bool spacing_bad(const uint8_t *spacing, unsigned halves)
 {
-    const uint8_t *inside = in_form + HALVES - halves;
+    const uint8_t *least = fewest + HALVES - halves;
     uint8_t bad = 0;
-    for (unsigned i = 0; i < HALVES; i++) {
-        uint8_t n = spacing[i], lines = (n == 3) | (n == 4) | (n == 6);
-        bad |= (lines != inside[i]) | ((n != 0) != inside[i]);
-    }
+    for (unsigned i = 0; i < HALVES; i++)
+        bad |= ((uint8_t)(spacing[i] - least[i]) > least[i]) | (spacing[i] == 5);
     return bad != 0;
 }
 
