@@ -152,8 +152,8 @@ enum { FIRST_COPY, COPIES, FIRST_LINE, LINES, FIRST_POSITION, POSITIONS };
 /* A zero among the six, or positions past 204. */
 static inline bool head_bad(const uint8_t *s)
 {
-    bool zero = (s[0] == 0) | (s[1] == 0) | (s[2] == 0) | (s[3] == 0) | (s[4] == 0) | (s[5] == 0);
-    return zero | (s[FIRST_POSITION] + s[POSITIONS] > LINE_CELLS + 1);
+    bool zero = s[0] == 0 || s[1] == 0 || s[2] == 0 || s[3] == 0 || s[4] == 0 || s[5] == 0;
+    return zero || s[FIRST_POSITION] + s[POSITIONS] > LINE_CELLS + 1;
 }
 
 static inline size_t segment_size(const uint8_t *s)
