@@ -1,4 +1,4 @@
-// What Start and a reset leave: the starting FCB and the starting state.
+// What Start and a reset leave: the starting FCB, the starting state, and no printer.
 use crate::Printer;
 use crate::Step;
 use calls::Fixed;
@@ -8,6 +8,7 @@ use copies::Copies;
 use form::Forms;
 use line::Slots;
 use numbers::Answer;
+use numbers::Refusal;
 use numbers::Sense;
 ghost use mathlib.Core.Path.{_≡_};
 ghost use mathlib.Core.Bool.{true};
@@ -17,9 +18,9 @@ ghost use Rattle.numbers.specs.declared.Refusal.the-variants.{Accepted};
 ghost use Rattle.numbers.specs.Numbers.{only};
 ghost use Rattle.form.specs.Form.{formLengths, startFcb, formsOf};
 ghost use Rattle.calls.specs.Reset.{resetState};
-ghost use Rattle.calls.specs.Start.{startWorld, startOutcome};
+ghost use Rattle.calls.specs.Start.{startWorld, noPrinter};
 ghost use Rattle.calls.proofs.Accepted.{Startable};
-ghost use Rattle.calls.specs.Core.{storesOf};
+ghost use Rattle.calls.specs.Core.{Stores, storesOf};
 ghost use Rattle.actions.specs.Whole.{outcome};
 
 impl Printer {
@@ -60,6 +61,23 @@ impl Printer {
                 written: false,
                 waiting: false,
                 due: false,
+            },
+        }
+    }
+
+    // What a refused Start hands back: no printer.
+    pub fn none(refusal: Refusal) -> Step
+        ensures { λ r. ⌜ ((m : Stores) → outcome r [] m ≡ record { answer = only refusal 0; buffer = []; world = noPrinter m }) ⌝ }
+    {
+        Step {
+            printer: Printer::NONE,
+            answer: Answer {
+                refusal: refusal,
+                status: 0,
+                ready: false,
+                lines: 0,
+                copy: 0,
+                mark: 0,
             },
         }
     }

@@ -35,17 +35,7 @@ pub fn start(
     if refusal.is_accepted() {
         return Printer::begin(form, p0, p1, p2, p3, page, legends, tables);
     }
-    Step {
-        printer: Printer::NONE,
-        answer: Answer {
-            refusal: refusal,
-            status: 0,
-            ready: false,
-            lines: 0,
-            copy: 0,
-            mark: 0,
-        },
-    }
+    Printer::none(refusal)
 }
 
 // An accepted command, a method each.

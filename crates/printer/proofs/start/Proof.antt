@@ -2,14 +2,14 @@
 use mathlib.Core.Path.{sym, ap, _∙_}
 use Rattle.numbers.specs.Numbers.{rowOf, isAccepted}
 use Rattle.numbers.proofs.Laws.{accepted-is}
-use Rattle.calls.specs.Start.{noState, noPrinter, startOutcome}
+use Rattle.calls.specs.Start.{startOutcome}
 use Rattle.calls.proofs.Accepted.{startable}
 use borrow.Author.Needs.{needs}
 use Rattle.printer.proofs.start.Statement.{statement}
 use Rattle.printer.proofs.start.Tie as tie
 
 pub start-spec : {M : Type 1} → statement M
-unfolding startOutcome noPrinter noState isAccepted rowOf
+unfolding startOutcome isAccepted rowOf
 start-spec =
     tie.close
     (tie.spec
@@ -23,7 +23,9 @@ start-spec =
     (λ c. let b = c .before .before .before .before .before .before in let x = b .before .before .before .before .before in
     rw (sym (x .before .start-refusal .ensures) ∙ accepted-is _ (sym (x .is-accepted .ensures)
     ∙ b .before .before .before .before .if1 .taken)) (b .begin .ensures))
+    (λ c κs. search needs)
     (λ c. search needs)
     (λ c. search needs)
     (λ c. search needs)
-    (λ c. rw (← c .before .before .start-refusal .ensures, sym (c .before .is-accepted .ensures) ∙ c .if1 .left)))
+    (λ c. rw (← c .before .before .before .start-refusal .ensures, sym (c .before .before .is-accepted .ensures) ∙ c .before .if1 .left)
+    (c .none .ensures _)))
