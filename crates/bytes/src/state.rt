@@ -1,4 +1,5 @@
 // docs/STATE.md: the state's bytes, and back.
+use actions::Printer;
 use calls::Fixed;
 use calls::Sheet;
 use calls::State;
@@ -6,7 +7,6 @@ use copies::Copies;
 use form::Forms;
 use line::Slots;
 use numbers::Sense;
-use actions::Printer;
 ghost use mathlib.Core.Path.{_≡_};
 ghost use Prim.Native.Nat.{_+_, _*_};
 ghost use mathlib.Core.List.{_++_};

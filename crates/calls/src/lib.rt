@@ -4,7 +4,7 @@ use form::Forms;
 use line::Slots;
 use movement::Motion;
 ghost use mathlib.Core.Path.{_≡_};
-ghost use Rattle.calls.specs.Core.{started};
+ghost use Rattle.calls.specs.Core.{storesOf, sizesOk, started};
 
 // The sizes of the lent stores, of Sense's reply, and of a line.
 pub const PAGE_BYTES: usize = 26928;
@@ -67,6 +67,13 @@ pub enum Load {
     CopyModification,
     OverlaySequence,
     CopyNumber,
+}
+
+pub fn sizes_ok(page: &[u8], legends: &[u8], tables: &[u8]) -> bool
+    ensures { λ r. ⌜ r ≡ sizesOk (storesOf (now (page .entry)) (now (legends .entry)) (now (tables .entry))) ⌝ }
+{
+    (page.len() == PAGE_BYTES)
+        & ((legends.len() == LEGEND_BYTES) & (tables.len() == TABLE_BYTES))
 }
 
 pub fn is_started(sheet: Sheet) -> bool

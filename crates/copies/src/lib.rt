@@ -3,11 +3,11 @@ use numbers::Cause;
 use numbers::Checked;
 ghost use mathlib.Core.Path.{_≡_};
 ghost use Prim.Native.Nat.{_≤_};
-ghost use lib.ListN.{length};
+ghost use lib.ListN.{length, take};
 ghost use Rattle.seq.specs.Words.{any};
 ghost use Rattle.numbers.specs.Numbers.{isSound};
 ghost use Rattle.copies.specs.Copies.{tableCheck, pairsOf, copiesOf, wholePairs, badPair, sequenceCheck, markIn, numberCheck};
-ghost use Rattle.copies.specs.Copies.{pairSize, sequenceNow, withSequence, withReference, copyCount, copyNumber, copyMark, copiesInRange};
+ghost use Rattle.copies.specs.Copies.{pairSize, withSequence, withReference, copyCount, copyNumber, copyMark, copiesInRange};
 
 // The overlay sequence, pairs of copies and mark with 00 after them, its count in bytes, and the copy number reference.
 pub struct Copies {
@@ -134,19 +134,18 @@ pub fn load_number(copies: Copies, n: u8) -> Copies
     }
 }
 
-pub fn copies_in_range(copies: Copies) -> bool
-    ensures { λ r. ⌜ r ≡ copiesInRange copies ⌝ }
+// What a printer keeps, asked of its bytes.
+pub fn copies_in_range(pairs: &[u8], count: u8, reference: u8) -> bool
+    ensures { λ r. ⌜ r ≡ copiesInRange (record { pairs = now (pairs .entry); count = count; reference = reference }) ⌝ }
 {
-    let pairs = copies.pairs;
-    let zero = seq::zero_from(&pairs, copies.count as usize);
-    (copies.count <= 16) & (zero & (1 <= copies.reference))
+    let zero = seq::zero_from(pairs, seq::wide(count));
+    (count <= 16) & (zero & (1 <= reference))
 }
 
-pub fn sequence_ok(copies: Copies) -> bool
-    ensures { λ r. ⌜ r ≡ isSound (sequenceCheck (sequenceNow copies)) ⌝ }
+pub fn sequence_ok(pairs: &[u8], count: u8) -> bool
+    ensures { λ r. ⌜ r ≡ isSound (sequenceCheck (take count (now (pairs .entry)))) ⌝ }
 {
-    let pairs = copies.pairs;
-    sequence_check(seq::front(&pairs, copies.count as usize)).is_sound()
+    sequence_check(seq::front(pairs, seq::wide(count))).is_sound()
 }
 
 pub fn copy_count(copies: Copies) -> u16

@@ -1,5 +1,6 @@
 // Document 01, "Form and forms control": what an FCB says, whether its load takes it, and forms control as the printer keeps it.
 use crate::Forms;
+use crate::Kept;
 use crate::Layout;
 use numbers::Cause;
 use numbers::Checked;
@@ -8,9 +9,9 @@ ghost use mathlib.Core.Bool.{true, not, _&&_};
 ghost use mathlib.Core.List.{[], _∷_};
 ghost use Prim.Native.Nat.{_+_, _-_, _/_, _%_, _≤_};
 ghost use lib.Dec.{eqb};
-ghost use lib.ListN.{length};
+ghost use lib.ListN.{length, take};
 ghost use Rattle.seq.specs.Words.{any, listed};
-ghost use Rattle.form.specs.Form.{formLengths, pitchesListed, formOk, unitsOf, halfInch, layoutOf, layoutCheck, fcbCheck, fcbNow, formsOf, formsInRange};
+ghost use Rattle.form.specs.Form.{formLengths, pitchesListed, formOk, unitsOf, halfInch, layoutOf, layoutCheck, fcbCheck, formsOf, formsInRange};
 ghost use Rattle.form.specs.Pass.{stepOf, astray, set, uniform};
 
 const HALF_INCH: u16 = 12;
@@ -230,19 +231,19 @@ pub fn fcb_check(form: u16, fcb: &[u8]) -> Checked
     layout_check(form, layout)
 }
 
-// The FCB that the printer keeps, for any count: more than there are is all there are.
-pub fn forms_layout(form: u16, forms: Forms) -> Layout
-    ensures { λ r. ⌜ r ≡ layoutOf form (fcbNow forms) ⌝ }
+// For any count: more bytes than there are is all there are.
+pub fn kept(form: u16, fcb: &[u8], count: u8) -> Kept
+    requires { ⌜ length (now fcb) ≡ 144 ⌝ }
+    ensures range { λ r. ⌜ r .range ≡ formsInRange (record { fcb = now (fcb .entry); count = count }) ⌝ }
+    ensures layout { λ r. ⌜ r .layout ≡ layoutOf form (take count (now (fcb .entry))) ⌝ }
 {
-    let fcb = forms.fcb;
-    lay_out(form, seq::front(&fcb, forms.count as usize))
-}
-
-pub fn forms_in_range(forms: Forms) -> bool
-    ensures { λ r. ⌜ r ≡ formsInRange forms ⌝ }
-{
-    let fcb = forms.fcb;
-    (forms.count <= 144) & seq::zero_from(&fcb, forms.count as usize)
+    let n = seq::wide(count);
+    let zero = seq::zero_from(fcb, n);
+    let layout = lay_out(form, seq::front(fcb, n));
+    Kept {
+        range: (count <= 144) & zero,
+        layout: layout,
+    }
 }
 
 pub fn load_forms(sent: &[u8]) -> Forms

@@ -17,3 +17,9 @@ pub struct Layout {
     pub top: u16,
     pub lines: u16,
 }
+
+// The FCB that a printer keeps: whether its count and the 00 after it are in range, and the form that it lays out.
+pub struct Kept {
+    pub range: bool,
+    pub layout: Layout,
+}

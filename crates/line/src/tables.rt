@@ -5,7 +5,7 @@ ghost use mathlib.Core.Bool.{cond};
 ghost use Prim.Native.Nat.{_≤_, _%_};
 ghost use lib.Dec.{ltb};
 ghost use lib.ListN.{length, take};
-ghost use Rattle.line.specs.Line.{slotSize, isLoaded, slotsInRange, serving, putSlot, startTable, startTables};
+ghost use Rattle.line.specs.Line.{slotSize, isLoaded, serving, putSlot, startTable, startTables};
 
 pub fn is_loaded(slots: Slots) -> bool
     requires { ⌜ slots .selected ≤ 3 ⌝ }
@@ -14,13 +14,6 @@ pub fn is_loaded(slots: Slots) -> bool
     let loaded = slots.loaded;
     let at = seq::wide(slots.selected);
     loaded[at]
-}
-
-pub fn slots_in_range(slots: Slots) -> bool
-    ensures { λ r. ⌜ r ≡ slotsInRange slots ⌝ }
-{
-    let loaded = slots.loaded;
-    loaded[0] & (slots.selected <= 3)
 }
 
 fn serving_slot(slots: Slots) -> u8
