@@ -1,2 +1,3 @@
 pub mod Round
 pub mod Fields
+pub mod Parts

@@ -39,7 +39,7 @@ pub fn is_readable(s: &[u8]) -> bool
 }
 
 // A number of two bytes, high byte first.
-fn pair(high: u8, low: u8) -> u16
+pub fn pair(high: u8, low: u8) -> u16
     ensures { λ r. ⌜ r ≡ high * 256 + low ⌝ }
 {
     (high as u16) * 256 + (low as u16)

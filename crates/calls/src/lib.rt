@@ -72,8 +72,7 @@ pub enum Load {
 pub fn sizes_ok(page: &[u8], legends: &[u8], tables: &[u8]) -> bool
     ensures { λ r. ⌜ r ≡ sizesOk (storesOf (now (page .entry)) (now (legends .entry)) (now (tables .entry))) ⌝ }
 {
-    (page.len() == PAGE_BYTES)
-        & ((legends.len() == LEGEND_BYTES) & (tables.len() == TABLE_BYTES))
+    (page.len() == PAGE_BYTES) & ((legends.len() == LEGEND_BYTES) & (tables.len() == TABLE_BYTES))
 }
 
 pub fn is_started(sheet: Sheet) -> bool
