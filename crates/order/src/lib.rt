@@ -1,4 +1,3 @@
-// What comes before a call does anything: the command byte decoded, the contents judged, and the first refusal found.
+// What comes before an accepted call does anything: the command byte decoded, and the first refusal found.
 pub mod commands;
-pub mod contents;
 pub mod refusals;

@@ -1,6 +1,5 @@
 // Document 01, "Numbers": the orders of refusals, each in one place.
 use crate::commands;
-use crate::contents;
 use calls::Command;
 use calls::Load;
 use calls::State;
@@ -135,7 +134,7 @@ pub fn start_refusal(
 ) -> Refusal
     ensures { λ r. ⌜ r ≡ startRefusal form (p0 ∷ p1 ∷ p2 ∷ p3 ∷ []) (storesOf (now (page .entry)) (now (legends .entry)) (now (tables .entry))) ⌝ }
 {
-    if !contents::sizes_ok(page, legends, tables) {
+    if !calls::sizes_ok(page, legends, tables) {
         return Refusal::BadStore;
     }
     if !form::fcb::form_ok(form, p0, p1, p2, p3) {
