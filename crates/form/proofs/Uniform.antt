@@ -1,21 +1,22 @@
 -- An FCB of one spacing that fills its form needs no pass over it: there is one run, and the edge half inches are as many lines at either end, since
 -- every line has the same units.
-use Prim.Native.Nat.{ℕ, suc, _+_, _*_, _-_, _/_, _%_, _≤_, _<_}
+use Prim.Native.Nat.{ℕ, zero, suc, _+_, _*_, _-_, _/_, _%_, _≤_, _<_}
 use mathlib.Core.Path.{_≡_, refl, sym, ap, _∙_}
-use mathlib.Core.Bool.{Bool, true, false, cond, not, _&&_, _||_, or-false, and-false}
+use mathlib.Core.Bool.{Bool, true, false, cond, not, _&&_, _||_, or-false, or-assoc, and-false}
 use mathlib.Core.List.{List, [], _∷_, _++_, append-nil}
 use native.Mathlib.Nat.{add-zero, add-assoc, div-zero}
+use native.Mathlib.Numerals.{add-one}
 use native.Mathlib.Omega.{arith}
 use lib.Dec.{eqb, leb, ltb}
 use lib.ListN.{length, getD, take, drop, length-append, length-take, length-drop, take-append-drop}
-use lib.Seq.{drop-drop, length-take-le}
-use borrow.Author.Tests.{eqb-true, leb-true, eq-eqb, ne-eqb, lt-ltb, le-ltb, le-leb, lt-leb, not-true, not-false}
-use Rattle.seq.specs.Words.{any}
+use lib.Seq.{drop-drop, drop-cons, length-take-le, getD-take}
+use borrow.Author.Tests.{eqb-true, eqb-false, ltb-true, ltb-false, leb-true, eq-eqb, ne-eqb, lt-ltb, le-ltb, le-leb, lt-leb, not-true, not-false}
+use Rattle.seq.specs.Words.{any, every}
 use Rattle.seq.proofs.Laws.{and-left, and-right, or-left, or-right}
-use Rattle.seq.proofs.Loops.{any-append, any-split}
+use Rattle.seq.proofs.Loops.{any-append, any-split, any-not-all}
 use Rattle.form.specs.declared.Layout.{Layout}
-use Rattle.form.specs.Form.{upper, unitsOf, units, halfInch, runs, runsFrom, unitsTotal, between, linesWhere, printable, edges, badChannel, otherUpper, oddRun, layoutOf}
-use Rattle.form.specs.Pass.{set, astray, uniform}
+use Rattle.form.specs.Form.{upper, unitsOf, units, halfInch, runs, runsFrom, unitsTotal, between, linesWhere, printable, edges, badChannel, otherUpper, oddRun, layoutOf, formsInRange}
+use Rattle.form.specs.Pass.{set, astray, uniform, loose}
 use Rattle.form.proofs.FormLaws.{odd, units-has}
 
 -- No byte of a list is astray from the upper half u.
@@ -182,3 +183,54 @@ layout-uniform len f e =
     let h = and-right (leb 12 (length f)) _ e in
     let n = counts u (length f) len (room-uniform len f e) (eqb-true (12 * length f) (halfInchLines f * len) (and-left fills _ h)) in
     layout-parts u (halfInchLines f) len f (not-true (any (astray u) f) (and-right fills _ h)) n
+
+-- A byte of the upper half differs from it by its channel; any other differs by more than 12, round the end of the bytes if it lies below.
+pub differs : (u b d : ℕ) → u ≤ 15 → d < 256 → (d + 16 * u) % 256 ≡ b → ltb 12 d ≡ astray u b
+differs u b d h l e = go (eqb (b / 16) u) refl (ltb 12 (b % 16)) refl
+  where
+    go : (s : Bool) → eqb (b / 16) u ≡ s → (t : Bool) → ltb 12 (b % 16) ≡ t → ltb 12 d ≡ (not s || t)
+    go true p true q = lt-ltb 12 d (omega (arith, eqb-true (b / 16) u p, ltb-true 12 (b % 16) q))
+    go true p false q = le-ltb 12 d (omega (arith, eqb-true (b / 16) u p, ltb-false 12 (b % 16) q))
+    go false p t q = lt-ltb 12 d (omega (arith, eqb-false (b / 16) u p))
+
+-- From no upper half, 00 alone does not differ.
+pub differs-within : (u b d : ℕ) (w : Bool) → u ≤ 15 → d < 256 → (d + cond w (16 * u) 0) % 256 ≡ b
+    → ltb (cond w 12 0) d ≡ cond w (astray u b) (not (eqb b 0))
+differs-within u b d true h l e = differs u b d h l e
+differs-within u b d false h l e = go (eqb b 0) refl
+  where
+    go : (t : Bool) → eqb b 0 ≡ t → ltb 0 d ≡ not t
+    go true p = le-ltb 0 d (omega (arith, eqb-true b 0 p))
+    go false p = lt-ltb 0 d (omega (arith, eqb-false b 0 p))
+
+-- The scan of the bytes that a printer keeps: one more of them, and none left.
+loose-step : (u n i b : ℕ) (r : List ℕ) (t : Bool) → ltb i n ≡ t
+    → loose u (n - i) (b ∷ r) ≡ (cond t (astray u b) (not (eqb b 0)) || loose u (n - suc i) r)
+loose-step u n i b r true e = let q : n - i ≡ suc (n - suc i) = omega (arith, ltb-true i n e) in rw q (or-assoc (astray u b) _ _)
+loose-step u n i b r false e =
+    let p : n - i ≡ 0 = omega (arith, ltb-false i n e) in
+    let q : n - suc i ≡ 0 = omega (arith, ltb-false i n e) in
+    rw (p, q)
+
+pub loose-more : (u n i : ℕ) (f : List ℕ) → i < length f
+    → loose u (n - i) (drop i f) ≡ (cond (ltb i n) (astray u (getD f i 0)) (not (eqb (getD f i 0) 0)) || loose u (n - (i + 1)) (drop (i + 1) f))
+loose-more u n i f h = rw (add-one, drop-cons f i 0 h) (loose-step u n i (getD f i 0) (drop (suc i) f) (ltb i n) refl)
+
+pub loose-none : (u n : ℕ) → loose u n [] ≡ false
+loose-none u zero = refl
+loose-none u (suc n) = refl
+
+-- Where the scan finds nothing, the bytes are in range and the FCB has one spacing.
+pub uniform-kept : (len n : ℕ) (f : List ℕ) → 12 ≤ n → n ≤ 144 → length f ≡ 144
+    → (formsInRange (record { fcb = f; count = n }) && uniform len (take n f))
+    ≡ (eqb (12 * n) (halfInchLines f * len) && not (loose (upper (getD f 0 0)) n f))
+unfolding formsInRange every uniform
+uniform-kept len n f lo hi l =
+    rw (length-take-le n f (omega arith), getD-take n f 0 0 (omega arith), le-leb n 144 hi, le-leb 12 n lo, ← (any-not-all (λ b. eqb b 0) (drop n f)))
+    (both (eqb (12 * n) (halfInchLines f * len)) (any (astray (upper (getD f 0 0))) (take n f)) (any (λ b. not (eqb b 0)) (drop n f)))
+  where
+    both : (e a b : Bool) → ((not b && true) && (e && not a)) ≡ (e && not (a || b))
+    both e true true = sym (and-false e)
+    both e true false = refl
+    both e false true = sym (and-false e)
+    both e false false = refl

@@ -5,14 +5,14 @@ use crate::Layout;
 use numbers::Cause;
 use numbers::Checked;
 ghost use mathlib.Core.Path.{_≡_};
-ghost use mathlib.Core.Bool.{true, not, _&&_};
+ghost use mathlib.Core.Bool.{true, cond, not, _&&_};
 ghost use mathlib.Core.List.{[], _∷_};
 ghost use Prim.Native.Nat.{_+_, _-_, _/_, _%_, _≤_};
-ghost use lib.Dec.{eqb};
+ghost use lib.Dec.{eqb, ltb};
 ghost use lib.ListN.{length, take};
 ghost use Rattle.seq.specs.Words.{any, listed};
 ghost use Rattle.form.specs.Form.{formLengths, pitchesListed, formOk, unitsOf, halfInch, layoutOf, layoutCheck, fcbCheck, formsOf, formsInRange};
-ghost use Rattle.form.specs.Pass.{stepOf, astray, set, uniform};
+ghost use Rattle.form.specs.Pass.{stepOf, astray, set, uniform, loose};
 
 const HALF_INCH: u16 = 12;
 
@@ -231,17 +231,76 @@ pub fn fcb_check(form: u16, fcb: &[u8]) -> Checked
     layout_check(form, layout)
 }
 
+// The byte at place k, by the difference of `is_astray`: after the count any but 00 is loose.
+fn is_loose(upper: u8, count: u8, k: u8, b: u8) -> bool
+    requires { ⌜ upper ≤ 15 ⌝ }
+    ensures { λ r. ⌜ r ≡ cond (ltb k count) (astray upper b) (not (eqb b 0)) ⌝ }
+{
+    let within = k < count;
+    let base = seq::pick(within, 16 * upper, 0);
+    seq::pick(within, 12, 0) < std::num::wrapping_sub_u8(b, base)
+}
+
+// All 144 whatever the count is, and the place as a byte beside the index: so the loop has no branch and a known end.
+fn any_loose(upper: u8, count: u8, fcb: &[u8]) -> bool
+    requires { ⌜ upper ≤ 15 ⌝ }
+    requires { ⌜ length (now fcb) ≡ 144 ⌝ }
+    ensures { λ r. ⌜ r ≡ loose upper count (now (fcb .entry)) ⌝ }
+{
+    let mut found = false;
+    let mut k: u8 = 0;
+    let mut i = 0;
+    while i < 144 {
+        found = found | is_loose(upper, count, k, fcb[i]);
+        k += 1;
+        i += 1;
+    }
+    found
+}
+
+// Whether the FCB that a printer keeps is in range and of one spacing throughout.
+fn is_kept_uniform(form: u16, fcb: &[u8], count: u8) -> bool
+    requires { ⌜ length (now fcb) ≡ 144 ⌝ }
+    ensures { λ r. ⌜ r ≡ (formsInRange (record { fcb = now (fcb .entry); count = count }) && uniform form (take count (now (fcb .entry)))) ⌝ }
+{
+    if 144 < count {
+        return false;
+    }
+    if count < 12 {
+        return false;
+    }
+    let upper = fcb[0] / 16;
+    let k = half_inch_lines(upper);
+    (12 * seq::wide(count) == k as usize * form as usize) & !any_loose(upper, count, fcb)
+}
+
 // For any count: more bytes than there are is all there are.
-pub fn kept(form: u16, fcb: &[u8], count: u8) -> Kept
+fn kept_mixed(form: u16, fcb: &[u8], count: u8) -> Kept
     requires { ⌜ length (now fcb) ≡ 144 ⌝ }
     ensures range { λ r. ⌜ r .range ≡ formsInRange (record { fcb = now (fcb .entry); count = count }) ⌝ }
     ensures layout { λ r. ⌜ r .layout ≡ layoutOf form (take count (now (fcb .entry))) ⌝ }
 {
     let n = seq::wide(count);
     let zero = seq::zero_from(fcb, n);
-    let layout = lay_out(form, seq::front(fcb, n));
+    let layout = fold(form, seq::front(fcb, n));
     Kept {
         range: (count <= 144) & zero,
+        layout: layout,
+    }
+}
+
+// One scan is enough for most.
+pub fn kept(form: u16, fcb: &[u8], count: u8) -> Kept
+    requires { ⌜ length (now fcb) ≡ 144 ⌝ }
+    ensures range { λ r. ⌜ r .range ≡ formsInRange (record { fcb = now (fcb .entry); count = count }) ⌝ }
+    ensures layout { λ r. ⌜ r .layout ≡ layoutOf form (take count (now (fcb .entry))) ⌝ }
+{
+    if !is_kept_uniform(form, fcb, count) {
+        return kept_mixed(form, fcb, count);
+    }
+    let layout = lay_out_uniform(form, seq::front(fcb, seq::wide(count)));
+    Kept {
+        range: true,
         layout: layout,
     }
 }
