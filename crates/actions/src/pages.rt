@@ -54,12 +54,7 @@ impl Printer {
     }
 
     // The page is empty again, and a reset that was due is done.
-    pub fn empty_page(
-        mut self,
-        page: &mut [u8],
-        legends: &mut [u8],
-        tables: &mut [u8],
-    ) -> Step
+    pub fn empty_page(mut self, page: &mut [u8], legends: &mut [u8], tables: &mut [u8]) -> Step
         requires { ⌜ formOk (self .state .fixed .length) (self .state .fixed .pitches) ≡ true ⌝ }
         requires { ⌜ length (now page) ≡ 26928 ⌝ }
         requires { ⌜ length (now legends) ≡ 8192 ⌝ }
