@@ -4,7 +4,7 @@ use numbers::Checked;
 ghost use mathlib.Core.Path.{_≡_};
 ghost use Prim.Native.Nat.{_≤_};
 ghost use lib.ListN.{length, take};
-ghost use Rattle.seq.specs.Words.{any};
+ghost use Rattle.seq.specs.Words.{any, zeroFrom};
 ghost use Rattle.numbers.specs.Numbers.{isSound};
 ghost use Rattle.copies.specs.Copies.{tableCheck, pairsOf, copiesOf, wholePairs, badPair, sequenceCheck, markIn, numberCheck};
 ghost use Rattle.copies.specs.Copies.{pairSize, withSequence, withReference, copyCount, copyNumber, copyMark, copiesInRange};
@@ -134,11 +134,28 @@ pub fn load_number(copies: Copies, n: u8) -> Copies
     }
 }
 
+// All 16 whatever the count is, and the place as a byte beside the index: so the loop has no branch and a known end.
+fn zero_after(count: u8, pairs: &[u8]) -> bool
+    requires { ⌜ length (now pairs) ≡ 16 ⌝ }
+    ensures { λ r. ⌜ r ≡ zeroFrom count (now (pairs .entry)) ⌝ }
+{
+    let mut found = false;
+    let mut k: u8 = 0;
+    let mut i = 0;
+    while i < 16 {
+        found = found | ((count <= k) & (pairs[i] != 0));
+        k += 1;
+        i += 1;
+    }
+    !found
+}
+
 // What a printer keeps, asked of its bytes.
 pub fn copies_in_range(pairs: &[u8], count: u8, reference: u8) -> bool
+    requires { ⌜ length (now pairs) ≡ 16 ⌝ }
     ensures { λ r. ⌜ r ≡ copiesInRange (record { pairs = now (pairs .entry); count = count; reference = reference }) ⌝ }
 {
-    let zero = seq::zero_from(pairs, seq::wide(count));
+    let zero = zero_after(count, pairs);
     (count <= 16) & (zero & (1 <= reference))
 }
 

@@ -154,11 +154,16 @@ fn any_channel(lines: &[u8]) -> bool
 fn half_inch_lines(upper: u8) -> u16
     ensures { λ r. ⌜ (r ≡ halfInch / unitsOf upper) × (r ≤ 6) ⌝ }
 {
-    let n = units(upper);
-    if n == 0 {
-        return 0;
+    if upper == 0 {
+        return 3;
     }
-    HALF_INCH / n
+    if upper == 1 {
+        return 4;
+    }
+    if upper == 3 {
+        return 6;
+    }
+    0
 }
 
 fn is_uniform(form: u16, fcb: &[u8]) -> bool

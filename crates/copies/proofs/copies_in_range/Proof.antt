@@ -8,7 +8,7 @@ use Rattle.copies.proofs.copies_in_range.Tie as tie
 
 returns : tie.Need-returns
 unfolding copiesInRange every
-returns c = simp (and-true, c .zero-from .ensures, c .before .wide .ensures .0)
+returns c = simp (and-true, c .zero-after .ensures)
 
 pub copies-in-range-spec : {M : Type 1} → statement M
-copies-in-range-spec = tie.close (tie.spec (λ c κs. search needs) (λ c κs. search needs) returns)
+copies-in-range-spec = tie.close (tie.spec (λ c κs. search needs) returns)

@@ -1,21 +1,25 @@
--- `half_inch_lines` divides, where there is something to divide by.
-use Prim.Native.Nat.{ℕ, _/_, _≤_}
-use mathlib.Core.Path.{_≡_, refl, sym, ap, _∙_}
-use lib.Dec.{lit≤}
+-- `half_inch_lines` asks for the upper halves in the definition's order.
 use borrow.Author.Needs.{needs}
+use borrow.Author.Tests.{eq-eqb, ne-eqb}
 use Rattle.form.specs.Form.{unitsOf}
-use Rattle.form.proofs.FormLaws.{units-has}
 use Rattle.form.proofs.fcb.half_inch_lines.Statement.{statement}
 use Rattle.form.proofs.fcb.half_inch_lines.Tie as tie
 
-at-most-six : (u : ℕ) → 12 / unitsOf u ≤ 6
-at-most-six u = units-has (λ n. 12 / n ≤ 6) u (lit≤ tt) (lit≤ tt) (lit≤ tt) (lit≤ tt)
-
 returns : tie.Need-returns
-returns c = (ap (λ (n : ℕ). 12 / n) (sym (c .if1 .taken) ∙ c .before .units .ensures .0), lit≤ tt)
+unfolding unitsOf
+returns c = (simp (eq-eqb _ _ (c .if1 .taken)), search needs)
 
 returns-2 : tie.Need-returns-2
-returns-2 c = let e = c .before .units .ensures .0 in (ap (λ (n : ℕ). 12 / n) e, rw e (at-most-six _))
+unfolding unitsOf
+returns-2 c = (simp (ne-eqb _ _ (c .before .if1 .left), eq-eqb _ _ (c .if2 .taken)), search needs)
+
+returns-3 : tie.Need-returns-3
+unfolding unitsOf
+returns-3 c = (simp (ne-eqb _ _ (c .before .before .if1 .left), ne-eqb _ _ (c .before .if2 .left), eq-eqb _ _ (c .if3 .taken)), search needs)
+
+returns-4 : tie.Need-returns-4
+unfolding unitsOf
+returns-4 c = (simp (ne-eqb _ _ (c .before .before .if1 .left), ne-eqb _ _ (c .before .if2 .left), ne-eqb _ _ (c .if3 .left)), search needs)
 
 pub half-inch-lines-spec : {M : Type 1} → statement M
-half-inch-lines-spec = tie.close (tie.spec (λ c κs. search needs) returns (λ c. search needs) returns-2)
+half-inch-lines-spec = tie.close (tie.spec returns returns-2 returns-3 returns-4)
