@@ -1,18 +1,25 @@
 -- Codes and cells: what a test by modules, passes over a record, and a merge by tests come to.
-use Prim.Native.Nat.{ℕ, zero, suc, _/_, _≤_}
-use mathlib.Core.Path.{_≡_, refl, sym, ap}
-use mathlib.Core.Bool.{Bool, true, false, cond, not, _&&_, _||_, or-false, and-false, true≢false}
+use Prim.Native.Nat.{ℕ, zero, suc, _/_, _≤_, _<_}
+use mathlib.Core.Path.{_≡_, refl, sym, ap, _∙_}
+use mathlib.Core.Bool.{Bool, true, false, cond, not, _&&_, _||_, or-false, and-false, true≢false, Bool·not-not}
 use mathlib.Core.Option.{Option, none, some}
 use mathlib.Core.List.{List, [], _∷_, map, map-map}
 use native.Mathlib.Omega.{arith}
-use lib.ListN.{getD}
+use native.Mathlib.Nat.{le-of-suc-le-suc, not-suc-le-zero}
+use lib.ListN.{length, getD}
 use lib.Dec.{eqb}
 use borrow.Author.Tests.{eqb-true}
 use Rattle.seq.specs.Words.{any, all, when, firstOr}
-use Rattle.seq.proofs.Laws.{or-left, or-right}
+use Rattle.seq.proofs.Laws.{and-left, and-right, or-left, or-right}
 use Rattle.seq.proofs.Loops.{any-map}
 use Rattle.line.specs.Line.{unprintable, standIn, cellOf, translated, anyUnprintable}
 use Rattle.line.specs.Line.{location, isBlank, isUnderscore, mergeRules, mergeCell, isNone, collides}
+
+-- what all elements have, each has
+all-at : (f : ℕ → Bool) (l : List ℕ) (k : ℕ) → k < length l → all f l ≡ true → f (getD l k 0) ≡ true
+all-at f [] k h e = absurd (not-suc-le-zero h)
+all-at f (x ∷ l) zero h e = and-left (f x) (all f l) e
+all-at f (x ∷ l) (suc k) h e = all-at f l k (le-of-suc-le-suc h) (and-right (f x) (all f l) e)
 
 module _ (p0 p1 p2 p3 : ℕ) where
   -- of four tests by module, the code's own decides
@@ -30,6 +37,20 @@ module _ (p0 p1 p2 p3 : ℕ) where
       ≡ unprintable (p0 ∷ p1 ∷ p2 ∷ p3 ∷ []) c
   unfolding unprintable
   unprintable-by-module c h = by-module (eqb c 255) (c / 64) (omega (arith, h))
+
+  -- with all four fitted, FF alone is unprintable
+  abbrev Fitted : Type 0
+  Fitted = all (λ p. not (eqb p 0)) (p0 ∷ p1 ∷ p2 ∷ p3 ∷ []) ≡ true
+
+  fitted-code : (c : ℕ) → c ≤ 255 → Fitted → unprintable (p0 ∷ p1 ∷ p2 ∷ p3 ∷ []) c ≡ eqb c 255
+  unfolding unprintable
+  fitted-code c h e =
+      let fits = all-at (λ p. not (eqb p 0)) (p0 ∷ p1 ∷ p2 ∷ p3 ∷ []) (c / 64) (omega (arith, h)) e in
+      ap (λ (b : Bool). eqb c 255 || b) (sym (Bool·not-not _) ∙ ap not fits) ∙ or-false (eqb c 255)
+
+  pub any-fitted : (l : List ℕ) → ((k : ℕ) → getD l k 0 ≤ 255) → Fitted → any (unprintable (p0 ∷ p1 ∷ p2 ∷ p3 ∷ [])) l ≡ any (λ c. eqb c 255) l
+  any-fitted [] h e = refl
+  any-fitted (c ∷ l) h e = rw (fitted-code c (h 0) e) (ap (λ (b : Bool). eqb c 255 || b) (any-fitted l (λ k. h (suc k)) e))
 
 -- a record's codes before anything stands in for one
 abbrev pub codes : List ℕ → List ℕ → List ℕ

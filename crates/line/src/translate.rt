@@ -1,9 +1,10 @@
 // Bytes through a table: a pass that looks up, a pass that tests, and a third only where something is unprintable.
 ghost use mathlib.Core.Path.{_≡_};
-ghost use mathlib.Core.Bool.{cond};
+ghost use mathlib.Core.Bool.{cond, not};
 ghost use mathlib.Core.List.{[], _∷_, map};
+ghost use lib.Dec.{eqb};
 ghost use lib.ListN.{length, getD};
-ghost use Rattle.seq.specs.Words.{any};
+ghost use Rattle.seq.specs.Words.{any, all};
 ghost use Rattle.line.specs.Line.{unprintable, standIn, translated, anyUnprintable};
 
 fn entry(table: &[u8], byte: u8) -> u8
@@ -38,7 +39,7 @@ fn is_unprintable(p0: u8, p1: u8, p2: u8, p3: u8, code: u8) -> bool
         | ((module == 3) & (p3 == 0))
 }
 
-fn any_unprintable(codes: &[u8], p0: u8, p1: u8, p2: u8, p3: u8) -> bool
+fn any_by_module(codes: &[u8], p0: u8, p1: u8, p2: u8, p3: u8) -> bool
     ensures { λ r. ⌜ r ≡ any (unprintable (p0 ∷ p1 ∷ p2 ∷ p3 ∷ [])) (now (codes .entry)) ⌝ }
 {
     let mut found = false;
@@ -48,6 +49,54 @@ fn any_unprintable(codes: &[u8], p0: u8, p1: u8, p2: u8, p3: u8) -> bool
         i += 1;
     }
     found
+}
+
+fn any_ff(codes: &[u8]) -> bool
+    ensures { λ r. ⌜ r ≡ any (λ c. eqb c 0xFF) (now (codes .entry)) ⌝ }
+{
+    let mut found = false;
+    let mut i = 0;
+    while i < codes.len() {
+        found = found | (codes[i] == 0xFF);
+        i += 1;
+    }
+    found
+}
+
+// In blocks of 16. The last one goes back over codes of the one before it, so that none are left to a slow loop over single bytes.
+fn has_ff(codes: &[u8]) -> bool
+    ensures { λ r. ⌜ r ≡ any (λ c. eqb c 0xFF) (now (codes .entry)) ⌝ }
+{
+    let n = codes.len();
+    if n < 16 {
+        return any_ff(codes);
+    }
+    let mut at = 0;
+    while 16 <= n - at {
+        let end = at + 16;
+        if any_ff(&codes[at..end]) {
+            return true;
+        }
+        at = end;
+    }
+    let last = n - 16;
+    any_ff(&codes[last..n])
+}
+
+fn all_fitted(p0: u8, p1: u8, p2: u8, p3: u8) -> bool
+    ensures { λ r. ⌜ r ≡ all (λ p. not (eqb p 0)) (p0 ∷ p1 ∷ p2 ∷ p3 ∷ []) ⌝ }
+{
+    (p0 != 0) & ((p1 != 0) & ((p2 != 0) & (p3 != 0)))
+}
+
+// With all modules fitted FF alone is unprintable, which takes one test a code in place of five.
+fn any_unprintable(codes: &[u8], p0: u8, p1: u8, p2: u8, p3: u8) -> bool
+    ensures { λ r. ⌜ r ≡ any (unprintable (p0 ∷ p1 ∷ p2 ∷ p3 ∷ [])) (now (codes .entry)) ⌝ }
+{
+    if all_fitted(p0, p1, p2, p3) {
+        return has_ff(codes);
+    }
+    any_by_module(codes, p0, p1, p2, p3)
 }
 
 fn replace(cells: &mut [u8], p0: u8, p1: u8, p2: u8, p3: u8, other: u8)
@@ -66,7 +115,8 @@ pub fn stand_in(pitches: [u8; 4], table: &[u8]) -> u8
     ensures { λ r. ⌜ r ≡ standIn pitches (now (table .entry)) ⌝ }
 {
     let blank = table[0x40];
-    let bad = is_unprintable(pitches[0], pitches[1], pitches[2], pitches[3], blank);
+    let module = seq::wide(blank / 64);
+    let bad = (blank == 0xFF) | (pitches[module] == 0);
     seq::pick(bad, 0, blank)
 }
 
