@@ -4,10 +4,9 @@ pub mod tables;
 pub mod translate;
 
 ghost use mathlib.Core.Path.{_≡_};
-ghost use mathlib.Core.Bool.{cond, _&&_};
 ghost use Prim.Native.Nat.{_≤_};
 ghost use lib.ListN.{length};
-ghost use Rattle.line.specs.Line.{serving, anyUnprintable, lineCells, mergeLine, anyCollides, lineAt, pageWritten};
+ghost use Rattle.line.specs.Line.{serving, anyUnprintable, lineCells, lineAt, pageWritten};
 ghost use Rattle.line.specs.Line.{lineCauses, orUnmatched, causeByte};
 
 // The four table slots: which are loaded, and which is selected. Their bytes are a lent store.
@@ -46,20 +45,7 @@ fn make_line(cells: &mut [u8], sent: &[u8], pitches: [u8; 4], table: &[u8]) -> b
     translate::translate(&mut cells[0..n], sent, pitches, table)
 }
 
-// The first write on a line sets its cells, a later one merges with them. Says whether anything collides.
-fn lay(cells: &mut [u8], later: bool, new: &[u8]) -> bool
-    requires { ⌜ length (now cells) ≡ length (now new) ⌝ }
-    ensures cells { λ _. ⌜ now (cells .exit) ≡ cond later (mergeLine (now (cells .entry)) (now (new .entry))) (now (new .entry)) ⌝ }
-    ensures clash { λ r. ⌜ r ≡ (later && anyCollides (now (cells .entry)) (now (new .entry))) ⌝ }
-{
-    if later {
-        return merge::merge(cells, new);
-    }
-    seq::copy_all(cells, new);
-    false
-}
-
-// Writes the record on a line of the page, counted from 1; `later`, if that was written before.
+// Writes the record on a line of the page, counted from 1; `later`, if that was written before: its cells are made aside then, and merged.
 pub fn write_line(
     page: &mut [u8],
     line: u8,
@@ -81,14 +67,25 @@ pub fn write_line(
 {
     let at = 204 * (seq::wide(line) - 1);
     let end = at + 204;
-    let mut cells = [0u8; 204];
-    let unprintable = make_line(&mut cells, sent, pitches, tables::serving(slots, tables));
-    let collision = lay(&mut page[at..end], later, &cells);
+    let table = tables::serving(slots, tables);
+    let unloaded = !tables::is_loaded(slots);
+    if later {
+        let mut cells = [0u8; 204];
+        let unprintable = make_line(&mut cells, sent, pitches, table);
+        let collision = merge::merge(&mut page[at..end], &cells);
+        return Causes {
+            unprintable: unprintable,
+            unloaded: unloaded,
+            unmatched: false,
+            collision: collision,
+        };
+    }
+    let unprintable = make_line(&mut page[at..end], sent, pitches, table);
     Causes {
         unprintable: unprintable,
-        unloaded: !tables::is_loaded(slots),
+        unloaded: unloaded,
         unmatched: false,
-        collision: collision,
+        collision: false,
     }
 }
 
