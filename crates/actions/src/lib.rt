@@ -27,6 +27,17 @@ pub struct Step {
 }
 
 impl Printer {
+    // The sizes of the lent stores, of Sense's reply, and of a line.
+    pub const PAGE_BYTES: usize = calls::PAGE_BYTES;
+
+    pub const LEGEND_BYTES: usize = calls::LEGEND_BYTES;
+
+    pub const TABLE_BYTES: usize = calls::TABLE_BYTES;
+
+    pub const SENSE_BYTES: usize = calls::SENSE_BYTES;
+
+    pub const LINE_CELLS: usize = calls::LINE_CELLS;
+
     // What a refused Start hands back: all zeros, which no other call takes.
     pub const NONE: Printer = Printer {
         state: State {

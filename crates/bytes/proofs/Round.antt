@@ -12,9 +12,10 @@ use mir.Val.{boolByte}
 use borrow.Author.Tests.{eqb-true, eq-eqb, leb-true}
 use Rattle.seq.specs.Words.{all, listed, from}
 use Rattle.seq.proofs.Laws.{every-at, every-of, finally, also, listed-all, spelled, four}
+use Rattle.numbers.specs.declared.Sense.{Sense}
 use Rattle.calls.specs.declared.State.{State}
 use Rattle.actions.specs.declared.Printer.{Printer}
-use Rattle.bytes.specs.State.{stateSize, bytesOf, printerOf, readable, flagPlaces, byteAt, flagAt}
+use Rattle.bytes.specs.State.{stateSize, bytesOf, printerOf, readable, flagPlaces, byteAt, flagAt, withSense}
 
 -- the arrays are as long as their types say: pitches, slots loaded, the overlay sequence's pairs, the FCB's bytes
 pub record Lengths (ps : List ℕ) (slots : List Bool) (qs f : List ℕ) : Type 0 where
@@ -138,3 +139,9 @@ back s h e =
 -- Two states that are different bytes are different printers.
 pub same-bytes : (s t : List ℕ) → byteAt s 1 < 256 → byteAt t 1 < 256 → readable s ≡ true → readable t ≡ true → printerOf s ≡ printerOf t → s ≡ t
 same-bytes s t h k d e p = sym (back s h d) ∙ ap bytesOf p ∙ back t k e
+
+-- With another sense in its bytes, a state stands for the printer with that sense.
+pub back-sense : (s : List ℕ) (q : Sense) → byteAt s 1 < 256 → readable s ≡ true
+    → withSense s q ≡ bytesOf (record { state = printerOf s .state; sense = q })
+unfolding bytesOf
+back-sense s q h e = ap (λ (l : List ℕ). withSense l q) (sym (back s h e))

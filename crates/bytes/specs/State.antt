@@ -6,6 +6,7 @@ use lib.Dec.{eqb, leb}
 use lib.ListN.{length, take, drop, getD}
 use mir.Val.{boolByte}
 use Rattle.seq.specs.Words.{all, every}
+use Rattle.numbers.specs.declared.Sense.{Sense}
 use Rattle.form.specs.Form.{fcbSize}
 use Rattle.copies.specs.Copies.{pairSize}
 use Rattle.actions.specs.declared.Printer.{Printer}
@@ -78,3 +79,7 @@ flagPlaces = 6 ∷ 8 ∷ 9 ∷ 10 ∷ 11 ∷ 16 ∷ 17 ∷ 18 ∷ []
 
 unfoldable pub readable : List ℕ → Bool
 readable s = every (eqb (length s) stateSize ∷ all (λ n. leb (byteAt s n) 1) flagPlaces ∷ [])
+
+-- A state with another sense: bytes 19 to 23 replaced.
+abbrev pub withSense : List ℕ → Sense → List ℕ
+withSense s q = take 19 s ++ ((q .b0 ∷ q .b1 ∷ q .b2 ∷ q .b22 ∷ q .b23 ∷ []) ++ drop 5 (drop 19 s))

@@ -13,7 +13,7 @@ ghost use mathlib.Core.List.{_++_};
 ghost use lib.ListN.{length};
 ghost use lib.Dec.{leb};
 ghost use Rattle.seq.specs.Words.{all};
-ghost use Rattle.bytes.specs.State.{smallBytes, bytesOf, byteAt, printerWith, printerOf, flagPlaces, readable};
+ghost use Rattle.bytes.specs.State.{smallBytes, bytesOf, byteAt, printerWith, printerOf, flagPlaces, readable, withSense};
 
 pub const STATE_BYTES: usize = 184;
 
@@ -159,4 +159,13 @@ pub fn encode(p: Printer, s: &mut [u8])
     let pairs = p.state.copies.pairs;
     let fcb = p.state.forms.fcb;
     lay(&small, &pairs, &fcb, s);
+}
+
+// The sense alone, over a state that is otherwise as it was: what a refused call changes at most.
+pub fn put_sense(sense: Sense, s: &mut [u8])
+    requires { ⌜ length (now s) ≡ 184 ⌝ }
+    ensures { λ _. ⌜ now (s .exit) ≡ withSense (now (s .entry)) sense ⌝ }
+{
+    let bytes = [sense.b0, sense.b1, sense.b2, sense.b22, sense.b23];
+    seq::copy_all(&mut s[19..24], &bytes);
 }

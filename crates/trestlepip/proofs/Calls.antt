@@ -9,20 +9,22 @@ use Rattle.seq.specs.Words.{when, firstOr, zeros}
 use Rattle.seq.proofs.Laws.{and-left, and-right}
 use Rattle.numbers.specs.declared.Sense.{Sense}
 use Rattle.numbers.specs.declared.Refusal.the-variants.{Accepted, NoPage, BadIndex, TooShort, BadStore}
-use Rattle.numbers.specs.Numbers.{rowOf, only, senseAfter}
+use Rattle.numbers.specs.Numbers.{rowOf, isAccepted, only, senseAfter}
+use Rattle.calls.specs.declared.State.{State}
 use Rattle.calls.specs.Core.{Stores, World}
 use Rattle.calls.specs.Contents.{coreOk}
 use Rattle.calls.specs.Effects.{Effect, refused}
 use Rattle.calls.specs.Calls.{Call, compose, doCompose, perform, lent, refusalOf, Outcome, step}
 use Rattle.calls.specs.Start.{startOutcome, noState, noPrinter}
-use Rattle.calls.proofs.Refused.{by-outcome, nine}
+use Rattle.calls.proofs.Refused.{by-outcome, nine, refused-step}
+use Rattle.calls.proofs.Answers.{names}
 use Rattle.actions.specs.declared.Printer.{Printer}
 use Rattle.actions.specs.declared.Step.{Step}
 use Rattle.actions.specs.Whole.{coreOf, worldOf, outcome}
-use Rattle.bytes.specs.State.{stateSize, bytesOf, byteAt, printerOf, readable}
+use Rattle.bytes.specs.State.{stateSize, bytesOf, byteAt, printerOf, readable, withSense}
 use Rattle.bytes.specs.Contents.{soundBytes}
 use Rattle.bytes.specs.Packed.{packed}
-use Rattle.bytes.proofs.Round.{back, readable-size}
+use Rattle.bytes.proofs.Round.{back, back-sense, readable-size}
 use Rattle.trestlepip.specs.Face.{printerIn, shown, unread, called, callBytes, startBytes}
 
 -- What a call did, as the host finds it: its answer packed, its printer's bytes.
@@ -73,6 +75,21 @@ module _ (form : ℕ) (pitches s : List ℕ) (m : Stores) where
   pub no-room-so : {answer : ℕ} → eqb (length s) stateSize ≡ false → answer ≡ packed (only BadStore 0) → called answer [] s m ≡ startBytes form pitches s m
   unfolding startBytes
   no-room-so e a = rw (e, a)
+
+-- A refused call leaves all but the sense, so that the state's other bytes stay.
+module _ {p : Printer} {r : Step} {buffer : List ℕ} {m m′ : Stores} (c : Call) where
+  refused-state : outcome r buffer m′ ≡ step (worldOf p m) c → isAccepted (r .answer .refusal) ≡ false → r .printer .state ≡ p .state
+  refused-state o e =
+      let w = worldOf p m in
+      ap (λ (k : Outcome). k .world .core .state)
+      (o ∙ refused-step w c (ap isAccepted (sym (ap (λ (k : Outcome). k .answer .refusal) o ∙ names w c)) ∙ e))
+
+  pub sense-so : (s : List ℕ) → byteAt s 1 < 256 → readable s ≡ true → p ≡ printerOf s → outcome r buffer m′ ≡ step (worldOf p m) c
+      → isAccepted (r .answer .refusal) ≡ false → withSense s (r .printer .sense) ≡ bytesOf (r .printer)
+  sense-so s low e d o x =
+      back-sense s (r .printer .sense) low e
+      ∙ ap (λ (st : State). bytesOf (record { state = st; sense = r .printer .sense }))
+      (sym (refused-state o x ∙ ap (λ (q : Printer). q .state) d))
 
 -- Compose leaves the printer as it was: none of its refusals touches the sense.
 compose-sense : (n : ℕ) (s : Sense) (a b c d : Bool)

@@ -53,8 +53,15 @@ pub extern "C" fn trestlepip_command(
     }
     let p = state::decode(state);
     let step = printer::command(p, found.form, byte, sent, reply, page, legends, tables);
-    state::encode(step.printer, state);
-    answer::pack(step.answer)
+    let given = step.answer;
+    let refusal = given.refusal;
+    if refusal.is_accepted() {
+        state::encode(step.printer, state);
+        return answer::pack(given);
+    }
+    let q = step.printer;
+    state::put_sense(q.sense, state);
+    answer::pack(given)
 }
 
 // The stores are only read.
