@@ -30,9 +30,11 @@ regroup true true true true true true true true b = and-true b
 pub state-parts : (s : State) → stateOk s ≡ (fieldsOk s && (copiesOk s && formsLineOk s))
 unfolding stateOk fieldsOk copiesOk formsLineOk rangesOk every
 state-parts s =
+    let fixed = formOk (s .fixed .length) (s .fixed .pitches) in
+    let x = s .sheet in
     simp and-true
-    (regroup (formOk (s .fixed .length) (s .fixed .pitches)) (slotsInRange (s .slots)) (dueOk (s .sheet)) (markOk (s .sheet)) (copiesInRange (s .copies)) (sequenceOk s)
-    (formsInRange (s .forms)) (lineOk (P s) (s .sheet)) (formsOk s))
+    (regroup fixed (slotsInRange (s .slots)) (dueOk x) (markOk x) (copiesInRange (s .copies)) (sequenceOk s)
+    (formsInRange (s .forms)) (lineOk (P s) x) (formsOk s))
 
 -- readable, sizes; ranges, due, mark, FCB, sequence; legends
 reorder : (r z a d m b q l : Bool) → (r && (z && (a && (d && (m && (b && (q && l))))))) ≡ (z && (r && ((a && (d && (m && (b && q)))) && l)))

@@ -11,7 +11,8 @@ ghost use Prim.Native.Nat.{_+_, _-_, _/_, _%_, _≤_};
 ghost use lib.Dec.{eqb, ltb};
 ghost use lib.ListN.{length, take};
 ghost use Rattle.seq.specs.Words.{any, listed};
-ghost use Rattle.form.specs.Form.{formLengths, pitchesListed, formOk, unitsOf, halfInch, layoutOf, layoutCheck, fcbCheck, formsOf, formsInRange};
+ghost use Rattle.form.specs.Form.{formLengths, pitchesListed, formOk, unitsOf, halfInch};
+ghost use Rattle.form.specs.Form.{layoutOf, layoutCheck, fcbCheck, formsOf, formsInRange};
 ghost use Rattle.form.specs.Pass.{stepOf, astray, set, uniform, loose};
 
 const HALF_INCH: u16 = 12;

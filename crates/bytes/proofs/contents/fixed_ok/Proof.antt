@@ -8,7 +8,8 @@ returns c =
     let p₃ = c .before .before .before in
     let p₂ = p₃ .before .before in
     let p₁ = p₂ .before .before in
-    rw (c .form-ok .ensures, p₁ .before .before .pair .ensures, p₁ .pitch .ensures, p₂ .pitch2 .ensures, p₃ .pitch3 .ensures, c .before .pitch4 .ensures)
+    let n = p₁ .before .before .pair .ensures in
+    rw (c .form-ok .ensures, n, p₁ .pitch .ensures, p₂ .pitch2 .ensures, p₃ .pitch3 .ensures, c .before .pitch4 .ensures)
 
 pub fixed-ok-spec : {M : Type 1} → statement M
 fixed-ok-spec =

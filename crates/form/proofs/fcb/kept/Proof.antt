@@ -34,7 +34,8 @@ lay-out-uniform-requires c κs =
 returns-2 : tie.Need-returns-2
 returns-2 c =
     let w = c .before .before in
-    (sym (and-left (in-range (w .before)) (one-spacing (w .before)) (both (w .before))), rw (c .lay-out-uniform .ensures, c .before .front .ensures, w .wide .ensures .0))
+    let e = w .before in
+    (sym (and-left (in-range e) (one-spacing e) (both e)), rw (c .lay-out-uniform .ensures, c .before .front .ensures, w .wide .ensures .0))
 
 pub kept-spec : {M : Type 1} → statement M
 kept-spec =
