@@ -77,19 +77,18 @@ module _ (form : ℕ) (pitches s : List ℕ) (m : Stores) where
   no-room-so e a = rw (e, a)
 
 -- A refused call leaves all but the sense, so that the state's other bytes stay.
-module _ {p : Printer} {r : Step} {buffer : List ℕ} {m m′ : Stores} (c : Call) where
-  refused-state : outcome r buffer m′ ≡ step (worldOf p m) c → isAccepted (r .answer .refusal) ≡ false → r .printer .state ≡ p .state
-  refused-state o e =
+module _ (p : Printer) (m : Stores) (c : Call) {r : Step} {buffer : List ℕ} {m′ : Stores} (o : outcome r buffer m′ ≡ step (worldOf p m) c)
+    (e : isAccepted (r .answer .refusal) ≡ false) where
+  refused-state : r .printer .state ≡ p .state
+  refused-state =
       let w = worldOf p m in
       ap (λ (k : Outcome). k .world .core .state)
       (o ∙ refused-step w c (ap isAccepted (sym (ap (λ (k : Outcome). k .answer .refusal) o ∙ names w c)) ∙ e))
 
-  pub sense-so : (s : List ℕ) → byteAt s 1 < 256 → readable s ≡ true → p ≡ printerOf s → outcome r buffer m′ ≡ step (worldOf p m) c
-      → isAccepted (r .answer .refusal) ≡ false → withSense s (r .printer .sense) ≡ bytesOf (r .printer)
-  sense-so s low e d o x =
-      back-sense s (r .printer .sense) low e
-      ∙ ap (λ (st : State). bytesOf (record { state = st; sense = r .printer .sense }))
-      (sym (refused-state o x ∙ ap (λ (q : Printer). q .state) d))
+  pub sense-so : (s : List ℕ) → byteAt s 1 < 256 → readable s ≡ true → p ≡ printerOf s → withSense s (r .printer .sense) ≡ bytesOf (r .printer)
+  sense-so s low h d =
+      back-sense s (r .printer .sense) low h
+      ∙ ap (λ (st : State). bytesOf (record { state = st; sense = r .printer .sense })) (sym (refused-state ∙ ap (λ (q : Printer). q .state) d))
 
 -- Compose leaves the printer as it was: none of its refusals touches the sense.
 compose-sense : (n : ℕ) (s : Sense) (a b c d : Bool)

@@ -1,13 +1,14 @@
--- Stepped where the contents are good, or refused with 9.
+-- Stepped where the contents are good, or refused with 9; what a refused command leaves is the sense over the state's bytes.
 use Prim.Native.Nat.{_<_}
 use mathlib.Core.Path.{_≡_, sym, _∙_}
 use mathlib.Core.Bool.{true}
 use native.Mathlib.Omega.{arith}
 use borrow.Author.Tests.{not-true, not-false}
 use Rattle.calls.specs.Core.{Stores, storesOf}
+use Rattle.calls.specs.Calls.{Call, command}
 use Rattle.bytes.specs.State.{byteAt}
 use Rattle.bytes.specs.Contents.{soundBytes}
-use Rattle.trestlepip.proofs.Calls.{sound-read, sound-good, sound-size, read-so, unread-so}
+use Rattle.trestlepip.proofs.Calls.{sound-read, sound-good, sound-size, read-so, unread-so, sense-so}
 use borrow.Author.Needs.{needs}
 use Rattle.trestlepip.proofs.trestlepip_command.Statement.{statement}
 use Rattle.trestlepip.proofs.trestlepip_command.Tie as tie
@@ -15,9 +16,18 @@ use Rattle.trestlepip.proofs.trestlepip_command.Tie as tie
 abbrev stores : tie.Start → Stores
 stores c = storesOf (c .args .page .now) (c .args .legends .now) (c .args .tables .now)
 
+abbrev call : tie.Start → Call
+call c = command (c .args .byte) (c .args .sent .now) (c .args .reply .now)
+
 -- the contents were found good
-sound-at : (c : tie.Else1) → let s = c .before .before .before .before .before .before .before .before .before .before .before .before .before in soundBytes (s .args .state .now) (stores s) ≡ true
+abbrev start : tie.Else1 → tie.Start
+start c = c .before .before .before .before .before .before .before .before .before .before .before .before .before
+
+sound-at : (c : tie.Else1) → soundBytes (start c .args .state .now) (stores (start c)) ≡ true
 sound-at c = sym (c .before .before .look .ensures .0) ∙ not-false _ (c .if1 .left)
+
+low-at : (c : tie.Else1) → byteAt (start c .args .state .now) 1 < 256
+low-at c = omega (arith, c .before .before .before .before .before .before .before .before .before .before .slice-known2 .given 1)
 
 pub trestlepip-command-spec : {M : Type 1} → statement M
 trestlepip-command-spec =
@@ -34,13 +44,26 @@ trestlepip-command-spec =
     (λ c κs. sound-size _ _ (sound-at (c .before)))
     (λ c κs. let d = c .before .before .before .before in let x = d .before .before in
     (rw (d .decode .ensures) (x .before .before .look .ensures .1 (not-false _ (x .if1 .left))), rw (d .decode .ensures) (sound-good _ _ (sound-at x))))
-    (λ c κs. sound-size _ _ (sound-at (c .before .before .before .before .before .before .before .before .before .before .before .before .before .before .before .before)))
+    (λ c κs. search needs)
+    (λ c κs. sound-size _ _ (sound-at (c .before .before .before .before .before .before .before .before .before .before .before .before .before .before .before .before .before .before .before)))
     (λ c κs. search needs)
     (λ c. search needs)
     (λ c. search needs)
     (λ c. search needs)
     (λ c. search needs)
     (λ c. search needs)
-    (λ c. let s = c .before .before .before .before .before .before .before .before .before .before .before .before .before in let d = s .before .before .before .before .before in
+    (λ c. let s = c .before .before .before .before .before .before .before .before .before .before .before .before .before .before .before .before in let d = s .before .before .before .before .before in
     read-so _ _ _ (sound-read _ _ (sound-at (d .before .before))) (d .decode .ensures) (s .command .ensures) (c .pack .ensures)
-    (c .before .before .before .encode .ensures)))
+    (c .before .before .before .encode .ensures))
+    (λ c κs. sound-size _ _ (sound-at (c .before .before .before .before .before .before .before .before .before .before .before .before .before .before .before .before .before .before .before .before)))
+    (λ c κs. search needs)
+    (λ c. search needs)
+    (λ c. search needs)
+    (λ c. search needs)
+    (λ c. search needs)
+    (λ c. search needs)
+    (λ c. let s = c .before .before .before .before .before .before .before .before .before .before .before .before .before .before .before .before .before in let d = s .before .before .before .before .before in let x = d .before .before in let r = sound-read _ _ (sound-at x) in
+    read-so _ _ _ r (d .decode .ensures) (s .command .ensures) (c .pack2 .ensures)
+    (c .before .before .before .put-sense .ensures
+    ∙ sense-so (d .decode .result) (stores (start x)) (call (start x)) (s .command .ensures)
+    (sym (c .before .before .before .before .before .before .before .is-accepted .ensures) ∙ c .before .before .before .before .before .before .if2 .left) _ (low-at x) r (d .decode .ensures))))
