@@ -1,4 +1,5 @@
 pub mod Calls
+mod Kept
 pub mod Tight
 pub mod Tells
 pub mod Sized
