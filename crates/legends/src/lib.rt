@@ -15,13 +15,13 @@ ghost use Rattle.line.specs.Line.{translated, anyUnprintable};
 ghost use Rattle.legends.specs.Legends.{segmentLength, badHead, segmentTests, segments, legendCheck, legendsOk};
 ghost use Rattle.legends.specs.Legends.{retext, storedLegends, legendText};
 
+// Joined from the left: nested the other way, the tests become vector operations, for which the next segment's place has to wait.
 fn bad_head(s: &[u8]) -> bool
     requires { ⌜ 6 ≤ length (now s) ⌝ }
     ensures { λ r. ⌜ r ≡ badHead (now (s .entry)) ⌝ }
 {
     let end = seq::wide(s[4]) + seq::wide(s[5]);
-    let zero = (s[0] == 0)
-        | ((s[1] == 0) | ((s[2] == 0) | ((s[3] == 0) | ((s[4] == 0) | (s[5] == 0)))));
+    let zero = (s[0] == 0) | (s[1] == 0) | (s[2] == 0) | (s[3] == 0) | (s[4] == 0) | (s[5] == 0);
     zero | !((2 <= end) & (end <= 205))
 }
 
