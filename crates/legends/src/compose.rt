@@ -8,29 +8,26 @@ ghost use lib.ListN.{length, getD, drop};
 ghost use Rattle.line.specs.Line.{lineBytes};
 ghost use Rattle.legends.specs.Legends.{segmentOf, segmentLength, badHead, storedSegments, legendsOk, copyFrom, composed};
 
-// Ten lines through a local block: nothing can overlap, so the two copies become one move.
-fn move_block(to: &mut [u8], from: &[u8])
-    requires { ⌜ length (now to) ≡ 2040 ⌝ }
-    requires { ⌜ length (now from) ≡ 2040 ⌝ }
-    ensures { λ _. ⌜ now (to .exit) ≡ now (from .entry) ⌝ }
-{
-    let mut block = [0u8; 2040];
-    seq::copy_all(&mut block, from);
-    seq::copy_all(to, &block);
-}
-
-fn copy_lines(to: &mut [u8], from: &[u8])
+// From one slice to another by the front of a block.
+fn copy_by(block: &mut [u8], to: &mut [u8], from: &[u8])
     requires { ⌜ length (now to) ≡ length (now from) ⌝ }
+    requires { ⌜ length (now from) ≤ length (now block) ⌝ }
     ensures { λ _. ⌜ now (to .exit) ≡ now (from .entry) ⌝ }
 {
     let n = from.len();
-    let mut at = 0;
-    while 2040 <= n - at {
-        let end = at + 2040;
-        move_block(&mut to[at..end], &from[at..end]);
-        at = end;
-    }
-    seq::copy_all(&mut to[at..n], &from[at..n]);
+    seq::copy_all(&mut block[0..n], from);
+    seq::copy_all(to, &block[0..n]);
+}
+
+// As many as 255 lines, by a local: two lent slices could overlap for all that the compiler knows. It leaves the local out again, and one move
+// remains.
+fn move_all(to: &mut [u8], from: &[u8])
+    requires { ⌜ length (now to) ≡ length (now from) ⌝ }
+    requires { ⌜ length (now from) ≤ lineBytes * 255 ⌝ }
+    ensures { λ _. ⌜ now (to .exit) ≡ now (from .entry) ⌝ }
+{
+    let mut block = [0u8; 52020];
+    copy_by(&mut block, to, from);
 }
 
 // The text of the segment at a place, as a part of the lent legends.
@@ -62,7 +59,7 @@ fn lay(out: &mut [u8], text: &[u8], row: usize, end: usize, place: usize)
     while i < end {
         let at = i * 204 + place;
         let past = at + n;
-        seq::copy_all(&mut out[at..past], text);
+        move_all(&mut out[at..past], text);
         i += 1;
     }
 }
@@ -104,12 +101,13 @@ fn paint_all(out: &mut [u8], legends: &[u8], number: usize, lines: usize)
 }
 
 fn compose_in(out: &mut [u8], page: &[u8], legends: &[u8], number: usize, lines: usize)
+    requires { ⌜ lines ≤ 255 ⌝ }
     requires { ⌜ legendsOk (now legends) ≡ true ⌝ }
     requires { ⌜ length (now page) ≡ lineBytes * lines ⌝ }
     requires { ⌜ length (now out) ≡ lineBytes * lines ⌝ }
     ensures { λ _. ⌜ now (out .exit) ≡ copyFrom (map segmentOf (storedSegments (now (legends .entry)))) number 0 (now (page .entry)) ⌝ }
 {
-    copy_lines(out, page);
+    move_all(out, page);
     paint_all(out, legends, number, lines);
 }
 

@@ -30,7 +30,7 @@ loop-again c =
       search needs,
       (
         search needs,
-        simp (add-sub-cancel-left, c .before .before .copy-all .ensures) (ap length e ∙ length-copyFrom _ 0 0 (a .out .now), e),
+        simp (add-sub-cancel-left, c .before .before .move-all .ensures) (ap length e ∙ length-copyFrom _ 0 0 (a .out .now), e),
       ),
     )
 
