@@ -2,13 +2,14 @@
 use Prim.Native.Nat.{ℕ, zero, suc, _+_, _≤_, _<_}
 use mathlib.Core.Path.{_≡_, refl, sym, ap, _∙_}
 use mathlib.Core.Bool.{Bool, true, false, not, _&&_, _||_, or-false, or-assoc}
-use mathlib.Core.List.{List, [], _∷_, _++_, map, append-assoc}
+use mathlib.Core.List.{List, [], _∷_, _++_, map}
 use native.Mathlib.Nat.{le-of-suc-le-suc, not-suc-le-zero}
 use native.Mathlib.Numerals.{add-one}
 use native.Mathlib.Omega.{arith}
-use lib.ListN.{length, getD, take, drop, set, length-take, take-append-drop, drop-of-length-le}
-use lib.Seq.{take-all, drop-drop, take-add, take-at, drop-at}
+use lib.ListN.{length, getD, take, drop, set, take-append-drop, drop-of-length-le}
+use lib.Seq.{take-all, take-take, take-add}
 use Rattle.seq.specs.Words.{any, all, zipped}
+use Rattle.seq.proofs.Laws.{or-left}
 
 -- A loop that writes: the first n elements are the goal's, the others as they were.
 unfoldable pub filled : ℕ → List ℕ → List ℕ → List ℕ
@@ -16,13 +17,6 @@ filled zero goal old = old
 filled (suc n) [] old = old
 filled (suc n) (x ∷ goal) [] = []
 filled (suc n) (x ∷ goal) (y ∷ old) = x ∷ filled n goal old
-
-pub length-filled : (n : ℕ) (goal old : List ℕ) → length (filled n goal old) ≡ length old
-unfolding filled
-length-filled zero goal old = refl
-length-filled (suc n) [] old = refl
-length-filled (suc n) (x ∷ goal) [] = refl
-length-filled (suc n) (x ∷ goal) (y ∷ old) = ap suc (length-filled n goal old)
 
 -- what the next turn reads is still the old element
 pub reads-old : (n : ℕ) (goal old out : List ℕ) → out ≡ filled n goal old → getD out n 0 ≡ getD old n 0
@@ -64,15 +58,6 @@ filled-all n goal old l h =
     let e = drop-of-length-le goal {i = n} (omega (arith, l, h)) ∙ sym (drop-of-length-le old h) in
     rw (filled-is n goal old l, ← e) (take-append-drop n goal)
 
--- a turn that writes a block of m: `out` is the list at its head, ys what stands in the block after it
-pub filled-block : (n m : ℕ) (goal old out ys : List ℕ) → length goal ≡ length old → n + m ≤ length old → out ≡ filled n goal old → ys ≡ take m (drop n goal)
-    → take n out ++ (ys ++ drop m (drop n out)) ≡ filled (n + m) goal old
-filled-block n m goal old out ys l h e y =
-    let front : length (take n goal) ≡ n = length-take n goal ∙ omega (arith, l, h) in
-    let o : out ≡ take n goal ++ drop n old = e ∙ filled-is n goal old l in
-    rw (filled-is (n + m) goal old l, take-add n m goal, o, y, take-at (take n goal) (drop n old) n front, drop-at (take n goal) (drop n old) n front, drop-drop m n old)
-    (sym (append-assoc (take n goal) (take m (drop n goal)) (drop (n + m) old)))
-
 -- A loop that reads, where some element passes, or all do.
 any-suc : {A : Type 0} (f : A → Bool) (d : A) (n : ℕ) (xs : List A) → n < length xs → (any f (take n xs) || f (getD xs n d)) ≡ any f (take (suc n) xs)
 any-suc f d n [] h = absurd (not-suc-le-zero h)
@@ -92,6 +77,20 @@ any-append f (x ∷ xs) ys = ap (λ (b : Bool). f x || b) (any-append f xs ys) �
 
 pub any-split : {A : Type 0} (f : A → Bool) (n : ℕ) (xs : List A) → any f xs ≡ (any f (take n xs) || any f (drop n xs))
 any-split f n xs = ap (any f) (sym (take-append-drop n xs)) ∙ any-append f (take n xs) (drop n xs)
+
+-- Where none of the first k passes, the others decide; none of fewer does; and a block of m after them adds its own.
+module _ {A : Type 0} (f : A → Bool) (k : ℕ) (xs : List A) (none : any f (take k xs) ≡ false) where
+  pub any-rest : any f xs ≡ any f (drop k xs)
+  any-rest = any-split f k xs ∙ ap (λ (b : Bool). b || any f (drop k xs)) none
+
+  pub any-fewer : (n : ℕ) → n ≤ k → any f (take n xs) ≡ false
+  any-fewer n h = ap (any f) (sym (take-take n k xs h)) ∙ or-left _ _ (sym (any-split f n (take k xs)) ∙ none)
+
+  pub any-block : (m : ℕ) → any f (take m (drop k xs)) ≡ false → any f (take (k + m) xs) ≡ false
+  any-block m e = ap (any f) (take-add k m xs) ∙ any-append f (take k xs) (take m (drop k xs)) ∙ (λ i. none i || e i)
+
+  pub any-here : (m : ℕ) → any f (take m (drop k xs)) ≡ true → any f xs ≡ true
+  any-here m e = any-rest ∙ any-split f m (drop k xs) ∙ ap (λ (b : Bool). b || any f (drop m (drop k xs))) e
 
 pub any-map : {A B : Type 0} (f : B → Bool) (g : A → B) (xs : List A) → any f (map g xs) ≡ any (λ x. f (g x)) xs
 any-map f g [] = refl

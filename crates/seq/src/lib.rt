@@ -82,6 +82,26 @@ fn any_set(s: &[u8]) -> bool
     set
 }
 
+// In blocks of 32. The last one goes back over bytes of the one before it, so that none are left to a slow loop over single bytes.
+fn any_set_by_32(s: &[u8]) -> bool
+    ensures { λ r. ⌜ r ≡ any (λ b. not (eqb b 0)) (now (s .entry)) ⌝ }
+{
+    let n = s.len();
+    if n < 32 {
+        return any_set(s);
+    }
+    let mut at = 0;
+    while 32 <= n - at {
+        let end = at + 32;
+        if any_set(&s[at..end]) {
+            return true;
+        }
+        at = end;
+    }
+    let last = n - 32;
+    any_set(&s[last..n])
+}
+
 // In blocks of 256: an early end between blocks, no branch inside one.
 fn all_zero(s: &[u8]) -> bool
     ensures { λ r. ⌜ r ≡ all (λ b. eqb b 0) (now (s .entry)) ⌝ }
@@ -95,7 +115,7 @@ fn all_zero(s: &[u8]) -> bool
         }
         at = end;
     }
-    !any_set(&s[at..n])
+    !any_set_by_32(&s[at..n])
 }
 
 // Whether all is 00 from place n on.

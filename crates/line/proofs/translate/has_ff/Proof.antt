@@ -1,16 +1,14 @@
 -- The blocks behind `at` have no FF. The last block begins among them, so that nothing is left out before it.
 use mathlib.Core.Path.{_≡_, refl, sym, ap, _∙_}
-use mathlib.Core.Bool.{Bool, false, _||_}
-use mathlib.Core.List.{List}
+use mathlib.Core.Bool.{Bool, false}
 use Prim.Native.Nat.{ℕ, _≤_, _-_}
 use native.Mathlib.Nat.{add-sub-cancel-left}
 use lib.Dec.{eqb}
-use lib.ListN.{length, take, drop}
-use lib.Seq.{take-add, take-take}
+use lib.ListN.{length, take}
 use borrow.Author.Needs.{needs}
 use Rattle.seq.specs.Words.{any}
-use Rattle.seq.proofs.Laws.{or-left, take-rest}
-use Rattle.seq.proofs.Loops.{any-append, any-split}
+use Rattle.seq.proofs.Laws.{take-rest}
+use Rattle.seq.proofs.Loops.{any-rest, any-fewer, any-block, any-here}
 use Rattle.line.proofs.translate.has_ff.Statement.{statement}
 use Rattle.line.proofs.translate.has_ff.Tie as tie
 
@@ -26,24 +24,17 @@ abbrev μ-loop : tie.MeasureT-loop
 loop-holds : tie.Need-loop-holds Inv-loop μ-loop
 loop-holds c = (search needs, (refl, refl))
 
--- with no FF among the first k, the others decide
-others : (k : ℕ) (s : List ℕ) → any isFF (take k s) ≡ false → any isFF s ≡ any isFF (drop k s)
-others k s e = any-split isFF k s ∙ ap (λ (b : Bool). b || any isFF (drop k s)) e
-
 returns-2 : tie.Need-returns-2 Inv-loop μ-loop
 returns-2 c =
     let l = c .before .before .before .before .loop in
-    let s = c .before .before .before .before .before .before .before .args .codes .now in
     let e = simp add-sub-cancel-left at (sym (c .before .any-ff2 .ensures) ∙ c .if2 .taken) in
-    sym (others (l .at) s (l .inv .1 .1) ∙ any-split isFF 16 (drop (l .at) s) ∙ ap (λ (b : Bool). b || any isFF (drop 16 (drop (l .at) s))) e)
+    sym (any-here isFF (l .at) _ (l .inv .1 .1) 16 e)
 
 loop-again : tie.Need-loop-again Inv-loop μ-loop
 loop-again c =
     let l = c .before .before .before .before .loop in
-    let s = c .before .before .before .before .before .before .before .args .codes .now in
     let e = simp add-sub-cancel-left at (sym (c .before .any-ff2 .ensures) ∙ c .if2 .left) in
-    let more = ap (any isFF) (take-add (l .at) 16 s) ∙ any-append isFF (take (l .at) s) (take 16 (drop (l .at) s)) in
-    (search needs, (refl, more ∙ (λ j. l .inv .1 .1 j || e j)))
+    (search needs, (refl, any-block isFF (l .at) _ (l .inv .1 .1) 16 e))
 
 returns-3 : tie.Need-returns-3 Inv-loop μ-loop
 returns-3 c =
@@ -51,9 +42,7 @@ returns-3 c =
     let s = c .before .before .before .before .before .before .args .codes .now in
     let last = length s - 16 in
     let h : last ≤ l .at = search needs in
-    let front = take (l .at) s in
-    let e = or-left (any isFF (take last front)) (any isFF (drop last front)) (sym (any-split isFF last front) ∙ l .inv .1 .1) in
-    c .any-ff3 .ensures ∙ ap (any isFF) (take-rest last s) ∙ sym (others last s (ap (any isFF) (sym (take-take last (l .at) s h)) ∙ e))
+    c .any-ff3 .ensures ∙ ap (any isFF) (take-rest last s) ∙ sym (any-rest isFF last s (any-fewer isFF (l .at) s (l .inv .1 .1) last h))
 
 pub has-ff-spec : {M : Type 1} → statement M
 has-ff-spec =
