@@ -15,7 +15,7 @@ use Rattle.seq.proofs.Laws.{every-at, every-of, finally, also, listed-all, spel
 use Rattle.numbers.specs.declared.Sense.{Sense}
 use Rattle.calls.specs.declared.State.{State}
 use Rattle.actions.specs.declared.Printer.{Printer}
-use Rattle.bytes.specs.State.{stateSize, bytesOf, printerOf, readable, flagPlaces, byteAt, flagAt, smallBytes, withSense, withSmall}
+use Rattle.bytes.specs.State.{stateSize, bytesOf, printerOf, readable, flagPlaces, byteAt, flagAt, withSense}
 
 -- the arrays are as long as their types say: pitches, slots loaded, the overlay sequence's pairs, the FCB's bytes
 pub record Lengths (ps : List ℕ) (slots : List Bool) (qs f : List ℕ) : Type 0 where
@@ -145,12 +145,3 @@ pub back-sense : (s : List ℕ) (q : Sense) → byteAt s 1 < 256 → readable s 
     → withSense s q ≡ bytesOf (record { state = printerOf s .state; sense = q })
 unfolding bytesOf
 back-sense s q h e = ap (λ (l : List ℕ). withSense l q) (sym (back s h e))
-
--- With a printer's small fields in its bytes, a state is that printer's, where the arrays are those that it had.
-pub back-small : (s : List ℕ) (q : Printer) → byteAt s 1 < 256 → readable s ≡ true → q .state .copies .pairs ≡ printerOf s .state .copies .pairs
-    → q .state .forms .fcb ≡ printerOf s .state .forms .fcb → withSmall s q ≡ bytesOf q
-unfolding bytesOf
-back-small s q h e ps fs =
-    ap (λ (l : List ℕ). smallBytes q ++ drop 24 l) (sym (back s h e))
-    ∙ ap (λ (l : List ℕ). smallBytes q ++ (l ++ printerOf s .state .forms .fcb)) (sym ps)
-    ∙ ap (λ (l : List ℕ). smallBytes q ++ (q .state .copies .pairs ++ l)) (sym fs)

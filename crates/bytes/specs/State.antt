@@ -83,7 +83,3 @@ readable s = every (eqb (length s) stateSize ∷ all (λ n. leb (byteAt s n) 1) 
 -- A state with another sense: bytes 19 to 23 replaced.
 abbrev pub withSense : List ℕ → Sense → List ℕ
 withSense s q = take 19 s ++ ((q .b0 ∷ q .b1 ∷ q .b2 ∷ q .b22 ∷ q .b23 ∷ []) ++ drop 5 (drop 19 s))
-
--- A state with other small fields: bytes 0 to 23 replaced.
-abbrev pub withSmall : List ℕ → Printer → List ℕ
-withSmall s p = smallBytes p ++ drop 24 s

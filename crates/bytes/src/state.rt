@@ -13,7 +13,7 @@ ghost use mathlib.Core.List.{_++_};
 ghost use lib.ListN.{length};
 ghost use lib.Dec.{leb};
 ghost use Rattle.seq.specs.Words.{all};
-ghost use Rattle.bytes.specs.State.{smallBytes, bytesOf, byteAt, printerWith, printerOf, flagPlaces, readable, withSense, withSmall};
+ghost use Rattle.bytes.specs.State.{smallBytes, bytesOf, byteAt, printerWith, printerOf, flagPlaces, readable, withSense};
 
 pub const STATE_BYTES: usize = 184;
 
@@ -168,13 +168,4 @@ pub fn put_sense(sense: Sense, s: &mut [u8])
 {
     let bytes = [sense.b0, sense.b1, sense.b2, sense.b22, sense.b23];
     seq::copy_all(&mut s[19..24], &bytes);
-}
-
-// The small fields alone, over a state whose two arrays are as they were.
-pub fn put_small(p: Printer, s: &mut [u8])
-    requires { ⌜ length (now s) ≡ 184 ⌝ }
-    ensures { λ _. ⌜ now (s .exit) ≡ withSmall (now (s .entry)) p ⌝ }
-{
-    let small = small_bytes(p);
-    seq::copy_all(&mut s[0..24], &small);
 }

@@ -1,5 +1,4 @@
 pub mod Calls
-mod Kept
 pub mod Tight
 pub mod Tells
 pub mod Sized

@@ -3,31 +3,11 @@
 use bytes::answer;
 use bytes::contents;
 use bytes::state;
-use calls::Command;
 ghost use mathlib.Core.Path.{_≡_};
 ghost use mathlib.Core.List.{[], _∷_};
 ghost use Rattle.calls.specs.Calls.{command, compose, release};
 ghost use Rattle.calls.specs.Core.{storesOf};
 ghost use Rattle.trestlepip.specs.Face.{called, callBytes, startBytes};
-ghost use Rattle.trestlepip.specs.Kept.{isMotion, keepsArrays};
-
-fn is_motion(command: Command) -> bool
-    ensures { λ r. ⌜ r ≡ isMotion command ⌝ }
-{
-    match command {
-        Command::Write(motion) => true,
-        Command::Move(motion) => true,
-        Command::Controls(control) => false,
-        Command::Loads(load) => false,
-        Command::Unlisted => false,
-    }
-}
-
-fn keeps_arrays(command: Command) -> bool
-    ensures { λ r. ⌜ r ≡ keepsArrays command ⌝ }
-{
-    is_motion(command) | order::commands::is_quiet(command)
-}
 
 #[no_mangle]
 pub extern "C" fn trestlepip_start(
@@ -75,16 +55,12 @@ pub extern "C" fn trestlepip_command(
     let step = printer::command(p, found.form, byte, sent, reply, page, legends, tables);
     let given = step.answer;
     let refusal = given.refusal;
-    if !refusal.is_accepted() {
-        let q = step.printer;
-        state::put_sense(q.sense, state);
+    if refusal.is_accepted() {
+        state::encode(step.printer, state);
         return answer::pack(given);
     }
-    if keeps_arrays(order::commands::decode(byte)) {
-        state::put_small(step.printer, state);
-        return answer::pack(given);
-    }
-    state::encode(step.printer, state);
+    let q = step.printer;
+    state::put_sense(q.sense, state);
     answer::pack(given)
 }
 

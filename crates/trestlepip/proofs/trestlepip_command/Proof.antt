@@ -1,6 +1,6 @@
--- Stepped where the contents are good, or refused with 9. What is written of the state is what the command can have changed.
+-- Stepped where the contents are good, or refused with 9; what a refused command leaves is the sense over the state's bytes.
 use Prim.Native.Nat.{_<_}
-use mathlib.Core.Path.{_≡_, sym, ap, _∙_}
+use mathlib.Core.Path.{_≡_, sym, _∙_}
 use mathlib.Core.Bool.{true}
 use native.Mathlib.Omega.{arith}
 use borrow.Author.Tests.{not-true, not-false}
@@ -8,9 +8,7 @@ use Rattle.calls.specs.Core.{Stores, storesOf}
 use Rattle.calls.specs.Calls.{Call, command}
 use Rattle.bytes.specs.State.{byteAt}
 use Rattle.bytes.specs.Contents.{soundBytes}
-use Rattle.trestlepip.specs.Kept.{keepsArrays}
 use Rattle.trestlepip.proofs.Calls.{sound-read, sound-good, sound-size, read-so, unread-so, sense-so}
-use Rattle.trestlepip.proofs.Kept.{small-so}
 use borrow.Author.Needs.{needs}
 use Rattle.trestlepip.proofs.trestlepip_command.Statement.{statement}
 use Rattle.trestlepip.proofs.trestlepip_command.Tie as tie
@@ -47,6 +45,16 @@ trestlepip-command-spec =
     (λ c κs. let d = c .before .before .before .before in let x = d .before .before in
     (rw (d .decode .ensures) (x .before .before .look .ensures .1 (not-false _ (x .if1 .left))), rw (d .decode .ensures) (sound-good _ _ (sound-at x))))
     (λ c κs. search needs)
+    (λ c κs. sound-size _ _ (sound-at (c .before .before .before .before .before .before .before .before .before .before .before .before .before .before .before .before .before .before .before)))
+    (λ c κs. search needs)
+    (λ c. search needs)
+    (λ c. search needs)
+    (λ c. search needs)
+    (λ c. search needs)
+    (λ c. search needs)
+    (λ c. let s = c .before .before .before .before .before .before .before .before .before .before .before .before .before .before .before .before in let d = s .before .before .before .before .before in
+    read-so _ _ _ (sound-read _ _ (sound-at (d .before .before))) (d .decode .ensures) (s .command .ensures) (c .pack .ensures)
+    (c .before .before .before .encode .ensures))
     (λ c κs. sound-size _ _ (sound-at (c .before .before .before .before .before .before .before .before .before .before .before .before .before .before .before .before .before .before .before .before)))
     (λ c κs. search needs)
     (λ c. search needs)
@@ -55,34 +63,7 @@ trestlepip-command-spec =
     (λ c. search needs)
     (λ c. search needs)
     (λ c. let s = c .before .before .before .before .before .before .before .before .before .before .before .before .before .before .before .before .before in let d = s .before .before .before .before .before in let x = d .before .before in let r = sound-read _ _ (sound-at x) in
-    read-so _ _ _ r (d .decode .ensures) (s .command .ensures) (c .pack .ensures)
+    read-so _ _ _ r (d .decode .ensures) (s .command .ensures) (c .pack2 .ensures)
     (c .before .before .before .put-sense .ensures
     ∙ sense-so (d .decode .result) (stores (start x)) (call (start x)) (s .command .ensures)
-    (sym (c .before .before .before .before .before .before .before .is-accepted .ensures) ∙ not-true _ (c .before .before .before .before .before .before .if2 .taken)) _ (low-at x) r (d .decode .ensures)))
-    (λ c κs. search needs)
-    (λ c κs. search needs)
-    (λ c κs. sound-size _ _ (sound-at (c .before .before .before .before .before .before .before .before .before .before .before .before .before .before .before .before .before .before .before .before .before .before)))
-    (λ c κs. search needs)
-    (λ c. search needs)
-    (λ c. search needs)
-    (λ c. search needs)
-    (λ c. search needs)
-    (λ c. search needs)
-    (λ c. let s = c .before .before .before .before .before .before .before .before .before .before .before .before .before .before .before .before .before .before .before in let d = s .before .before .before .before .before in let x = d .before .before in let r = sound-read _ _ (sound-at x) in
-    let a = start x .args in
-    read-so _ _ _ r (d .decode .ensures) (s .command .ensures) (c .pack2 .ensures)
-    (c .before .before .before .put-small .ensures
-    ∙ small-so (d .decode .result) (stores (start x)) (a .byte) (a .sent .now) (a .reply .now) (s .command .ensures)
-    (sym (c .before .before .before .before .before .before .before .before .before .is-accepted .ensures) ∙ not-false _ (c .before .before .before .before .before .before .before .before .if2 .left))
-    (sym (c .before .before .before .before .before .before .keeps-arrays .ensures ∙ ap keepsArrays (c .before .before .before .before .before .before .before .decode2 .ensures)) ∙ c .before .before .before .before .before .if3 .taken)
-    _ (low-at x) r (d .decode .ensures)))
-    (λ c κs. sound-size _ _ (sound-at (c .before .before .before .before .before .before .before .before .before .before .before .before .before .before .before .before .before .before .before .before .before .before)))
-    (λ c κs. search needs)
-    (λ c. search needs)
-    (λ c. search needs)
-    (λ c. search needs)
-    (λ c. search needs)
-    (λ c. search needs)
-    (λ c. let s = c .before .before .before .before .before .before .before .before .before .before .before .before .before .before .before .before .before .before .before in let d = s .before .before .before .before .before in
-    read-so _ _ _ (sound-read _ _ (sound-at (d .before .before))) (d .decode .ensures) (s .command .ensures) (c .pack3 .ensures)
-    (c .before .before .before .encode .ensures)))
+    (sym (c .before .before .before .before .before .before .before .is-accepted .ensures) ∙ c .before .before .before .before .before .before .if2 .left) _ (low-at x) r (d .decode .ensures))))
