@@ -1,140 +1,214 @@
-// One call each of the library, on the form and pitches of the paper's rows, and the line that it prints.
+// A printer's lent stores, the calls that are made on them, and what each call gave.
 use crate::show;
-use printer::Printer;
-use printer::Step;
+use crate::words;
+use crate::words::Given;
+use crate::words::COMMAND;
+ghost use Prim.Native.Nat.{_≤_};
 
-pub type Page = [u8; 26928];
+// Each store has room for one byte more than a call is to be lent, the buffer for one more than 15 lines.
+pub type State = [u8; 185];
 
-pub type Legends = [u8; 8192];
+pub type Page = [u8; 26929];
 
-pub type Tables = [u8; 1024];
+pub type Legends = [u8; 8193];
 
-pub fn fresh(page: &mut Page, legends: &mut Legends, tables: &mut Tables) -> Printer {
-    let step = Printer::start(84, 10, 10, 10, 10, page, legends, tables);
-    step.printer
+pub type Tables = [u8; 1025];
+
+pub type Buffer = [u8; 3061];
+
+// How much is lent of state, page, legends, tables and buffer, two bytes each.
+pub type Lent = [u8; 10];
+
+pub const USUAL: Lent = [0x00, 0xB8, 0x69, 0x30, 0x20, 0x00, 0x04, 0x00, 0x0B, 0xF4];
+
+// A number of two bytes.
+fn double(high: u8, low: u8) -> usize
+    ensures { λ r. ⌜ r ≤ 65535 ⌝ }
+{
+    seq::wide(high) * 256 + seq::wide(low)
 }
 
-// A command that prints nothing.
-pub fn run(
-    p: Printer,
-    code: u8,
-    sent: &[u8],
+// What follows a command's byte.
+fn record_of(given: &[u8], n: usize) -> &[u8] {
+    if n == 0 {
+        return given;
+    }
+    if given.len() < n {
+        return given;
+    }
+    &given[1..n]
+}
+
+fn make(
+    letter: u8,
+    given: &Given,
+    n: usize,
+    buffer: &mut [u8],
+    state: &mut [u8],
+    page: &mut [u8],
+    legends: &mut [u8],
+    tables: &mut [u8],
+) -> u64 {
+    match letter {
+        b'S' => trestlepip::trestlepip_start(
+            double(given[0], given[1]) as u32,
+            double(0, given[2]) as u32,
+            double(0, given[3]) as u32,
+            double(0, given[4]) as u32,
+            double(0, given[5]) as u32,
+            state,
+            page,
+            legends,
+            tables,
+        ),
+        b'C' => trestlepip::trestlepip_compose(
+            double(given[0], given[1]) as u32,
+            buffer,
+            state,
+            page,
+            legends,
+            tables,
+        ),
+        b'R' => trestlepip::trestlepip_release(state, page, legends, tables),
+        _ => trestlepip::trestlepip_command(
+            given[0],
+            record_of(given, n),
+            buffer,
+            state,
+            page,
+            legends,
+            tables,
+        ),
+    }
+}
+
+// The call, with as much of each store as is to be lent.
+fn lend(
+    letter: u8,
+    given: &Given,
+    n: usize,
+    lent: &Lent,
+    buffer: &mut [u8],
+    state: &mut [u8],
+    page: &mut [u8],
+    legends: &mut [u8],
+    tables: &mut [u8],
+) -> u64 {
+    let states = seq::least(double(lent[0], lent[1]), state.len());
+    let pages = seq::least(double(lent[2], lent[3]), page.len());
+    let texts = seq::least(double(lent[4], lent[5]), legends.len());
+    let codes = seq::least(double(lent[6], lent[7]), tables.len());
+    let buffers = seq::least(double(lent[8], lent[9]), buffer.len());
+    make(
+        letter,
+        given,
+        n,
+        &mut buffer[0..buffers],
+        &mut state[0..states],
+        &mut page[0..pages],
+        &mut legends[0..texts],
+        &mut tables[0..codes],
+    )
+}
+
+// How many bytes of page, legends and tables are not 00.
+fn filled(state: &State, page: &Page, legends: &Legends, tables: &Tables) {
+    show::text(b" | filled");
+    show::differ(b" state", state, &[0; 184]);
+    show::differ(b" page", page, &[0; 26928]);
+    show::differ(b" legends", legends, &[0; 8192]);
+    show::differ(b" tables", tables, &[0; 1024]);
+}
+
+// What an accepted Compose or Sense wrote. Of a copy: cells 1 and 204, how many cells are not 00, and how many are not the page's.
+fn written(letter: u8, code: u8, lent: &Lent, buffer: &Buffer, page: &Page) {
+    if letter == b'C' {
+        let out = seq::front(buffer, double(lent[8], lent[9]));
+        show::byte(b" | cell 1", buffer[0]);
+        show::byte(b" cell 204", buffer[203]);
+        show::differ(b" filled", out, &[0; 3061]);
+        show::differ(b" unlike", out, page);
+    }
+    if (letter == COMMAND) & (code == 0x04) {
+        show::reply(buffer);
+    }
+}
+
+// A call, and its figures. The buffer is lent with 07 in every byte.
+fn tell(
+    letter: u8,
+    given: &Given,
+    n: usize,
+    lent: &Lent,
+    state: &mut State,
     page: &mut Page,
     legends: &mut Legends,
     tables: &mut Tables,
-) -> Printer {
-    let mut reply = [0u8; 24];
-    let step = p.command(code, sent, &mut reply, page, legends, tables);
-    step.printer
+) {
+    let was_state = *state;
+    let was_page = *page;
+    let was_legends = *legends;
+    let was_tables = *tables;
+    let mut buffer = [7u8; 3061];
+    let answer = lend(letter, given, n, lent, &mut buffer, state, page, legends, tables);
+    show::answer(answer);
+    show::state(state, page);
+    show::text(b" | changed");
+    show::states(state, &was_state);
+    show::differ(b" page", page, &was_page);
+    show::differ(b" legends", legends, &was_legends);
+    show::differ(b" tables", tables, &was_tables);
+    show::differ(b" buffer", &buffer, &[7; 3061]);
+    filled(state, page, legends, tables);
+    if answer % 0x100 == 0 {
+        written(letter, given[0], lent, &buffer, page);
+    }
 }
 
-// The line of a call that was made, with the sense that it left; its end is the caller's to print.
-pub fn report(
-    name: &[u8],
-    step: Step,
+fn poke(s: &mut [u8], at: usize, value: u8) -> bool {
+    if at < s.len() {
+        s[at] = value;
+        return true;
+    }
+    false
+}
+
+// The sizes that the next call is lent, and whether there is room for them.
+fn resize(given: &Given, lent: &mut Lent) -> bool {
+    let all = &given[..];
+    seq::copy_all(lent, &all[0..10]);
+    (double(given[0], given[1]) <= 185)
+        & (double(given[2], given[3]) <= 26929)
+        & (double(given[4], given[5]) <= 8193)
+        & (double(given[6], given[7]) <= 1025)
+        & (double(given[8], given[9]) <= 3061)
+}
+
+// One line of the script, and whether it could be read.
+pub fn obey(
+    line: &[u8],
+    lent: &mut Lent,
+    state: &mut State,
     page: &mut Page,
     legends: &mut Legends,
     tables: &mut Tables,
-) -> Printer {
-    let p = step.printer;
-    let mut reply = [0u8; 24];
-    let asked = p.command(0x04, b"", &mut reply, page, legends, tables);
-    show::line(name, step.answer, &reply);
-    asked.printer
-}
-
-// A command and its line.
-pub fn tell(
-    name: &[u8],
-    p: Printer,
-    code: u8,
-    sent: &[u8],
-    page: &mut Page,
-    legends: &mut Legends,
-    tables: &mut Tables,
-) -> Printer {
-    let mut reply = [0u8; 24];
-    let step = p.command(code, sent, &mut reply, page, legends, tables);
-    report(name, step, page, legends, tables)
-}
-
-// Likewise, with cell 1 of line 1.
-pub fn tell_cell(
-    name: &[u8],
-    p: Printer,
-    code: u8,
-    sent: &[u8],
-    page: &mut Page,
-    legends: &mut Legends,
-    tables: &mut Tables,
-) -> Printer {
-    let q = tell(name, p, code, sent, page, legends, tables);
-    show::byte(b" cell", page[0]);
-    q
-}
-
-// Likewise, with the line that the form is at.
-pub fn tell_line(
-    name: &[u8],
-    p: Printer,
-    code: u8,
-    sent: &[u8],
-    page: &mut Page,
-    legends: &mut Legends,
-    tables: &mut Tables,
-) -> Printer {
-    let q = tell(name, p, code, sent, page, legends, tables);
-    show::count(b" line", q.state.sheet.line as u64);
-    show::end();
-    q
-}
-
-// Of a copy: cells 1 and 204 of line 1, how many cells are not 00, and how many are not the page's.
-fn show_cells(out: &[u8; 3060], page: &Page) {
-    show::byte(b" cell 1", out[0]);
-    show::byte(b" cell 204", out[203]);
-    show::count(b" filled", show::unlike(out, &[0u8; 3060]));
-    show::count(b" unlike", show::unlike(out, page));
-}
-
-// The copy with this index, its line and its cells.
-pub fn tell_copy(
-    name: &[u8],
-    p: Printer,
-    index: u32,
-    page: &mut Page,
-    legends: &mut Legends,
-    tables: &mut Tables,
-) -> Printer {
-    let mut out = [7u8; 3060];
-    let step = p.compose(index, &mut out, page, legends, tables);
-    let q = report(name, step, page, legends, tables);
-    show::copy(step.answer);
-    show_cells(&out, page);
-    show::end();
-    q
-}
-
-// Release and its line.
-pub fn tell_release(
-    name: &[u8],
-    p: Printer,
-    page: &mut Page,
-    legends: &mut Legends,
-    tables: &mut Tables,
-) -> Printer {
-    let step = p.release(page, legends, tables);
-    report(name, step, page, legends, tables)
-}
-
-// A page with one byte written on its first line, completed.
-pub fn one_page(
-    p: Printer,
-    sent: &[u8],
-    page: &mut Page,
-    legends: &mut Legends,
-    tables: &mut Tables,
-) -> Printer {
-    let q = run(p, 0x01, sent, page, legends, tables);
-    run(q, 0x87, b"", page, legends, tables)
+) -> bool {
+    show::text(line);
+    let letter = words::letter(line);
+    let mut given = [0u8; 8194];
+    let n = words::bytes(line, letter, &mut given);
+    if !words::meant(letter, n) {
+        return false;
+    }
+    match letter {
+        b'#' => true,
+        b'P' => poke(state, seq::wide(given[0]), given[1]),
+        b'G' => poke(legends, double(given[0], given[1]), given[2]),
+        b'L' => resize(&given, lent),
+        _ => {
+            tell(letter, &given, n, lent, state, page, legends, tables);
+            *lent = USUAL;
+            true
+        }
+    }
 }

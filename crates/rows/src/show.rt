@@ -1,15 +1,9 @@
 // What the lines of output are made of. Numbers are decimal, bytes two hexadecimal digits.
 use libc::STDOUT_FILENO;
-use numbers::Answer;
-use numbers::Refusal;
 ghost use Prim.Native.Nat.{_≤_};
 
 pub fn text(s: &[u8]) {
     io::write_all(STDOUT_FILENO, s);
-}
-
-pub fn end() {
-    text(b"\n");
 }
 
 pub fn count(name: &[u8], n: u64) {
@@ -18,92 +12,73 @@ pub fn count(name: &[u8], n: u64) {
     io::print_decimal(STDOUT_FILENO, n);
 }
 
-fn digit(n: u8) -> u8 {
-    if n < 10 {
-        return b'0' + n;
+// A number that is left out where it is 0.
+pub fn figure(name: &[u8], n: u64) {
+    if n != 0 {
+        count(name, n);
     }
-    if n < 16 {
-        return b'A' + (n - 10);
-    }
-    b'?'
 }
 
 pub fn byte(name: &[u8], b: u8) {
-    let digits = [b' ', digit(b / 16), digit(b % 16)];
+    let digits = b"0123456789ABCDEF";
     text(name);
-    text(&digits);
-}
-
-pub fn flag(name: &[u8], set: bool) {
-    count(name, seq::flag(set, 1) as u64);
-}
-
-// The number, and a load check's cause.
-fn refusal(r: Refusal) {
-    count(b" number", r.number() as u64);
-    if let Refusal::LoadCheck(cause) = r {
-        count(b" cause", cause.number() as u64);
-    }
-}
-
-// Sense bytes 0 to 3, and 22 and 23.
-fn sense(reply: &[u8; 24]) {
-    byte(b" sense", reply[0]);
-    byte(b"", reply[1]);
-    byte(b"", reply[2]);
-    byte(b"", reply[3]);
-    byte(b" ..", reply[22]);
-    byte(b"", reply[23]);
-}
-
-fn named(name: &[u8], answer: Answer) {
-    let given = answer.refusal;
-    text(name);
-    refusal(given);
-    byte(b" status", answer.status);
-}
-
-fn moved(answer: Answer) {
-    count(b" lines", answer.lines as u64);
-    flag(b" ready", answer.ready);
-}
-
-// An answer, with the sense read after it.
-pub fn line(name: &[u8], answer: Answer, reply: &[u8; 24]) {
-    named(name, answer);
-    sense(reply);
-    moved(answer);
-}
-
-// An answer that leaves no printer whose sense could be read.
-pub fn bare(name: &[u8], answer: Answer) {
-    named(name, answer);
-    moved(answer);
-}
-
-// What Compose alone gives.
-pub fn copy(answer: Answer) {
-    count(b" copy", answer.copy as u64);
-    count(b" mark", answer.mark as u64);
-}
-
-fn shorter(a: usize, b: usize) -> usize
-    ensures { λ r. ⌜ (r ≤ a) × (r ≤ b) ⌝ }
-{
-    if a < b {
-        return a;
-    }
-    b
+    text(&[b' ', digits[seq::wide(b / 16)], digits[seq::wide(b % 16)]]);
 }
 
 // In how many places the two differ, as far as the shorter one goes.
-pub fn unlike(a: &[u8], b: &[u8]) -> u64 {
-    let end = shorter(a.len(), b.len());
+pub fn differ(name: &[u8], a: &[u8], b: &[u8]) {
+    let end = seq::least(a.len(), b.len());
     let mut n: u64 = 0;
     let mut i = 0;
     while i < end {
         n += seq::flag(a[i] != b[i], 1) as u64;
         i += 1;
     }
-    n
+    figure(name, n);
+}
+
+// How many bytes of the state differ, and how many of these are its sense bytes.
+pub fn states(a: &[u8; 185], b: &[u8; 185]) {
+    let x = &a[..];
+    let y = &b[..];
+    differ(b" state", x, y);
+    differ(b" sense", &x[19..24], &y[19..24]);
+}
+
+// The fields of a packed answer.
+pub fn answer(a: u64) {
+    count(b" | number", a % 0x100);
+    figure(b" cause", a / 0x4_0000 % 0x40);
+    byte(b" status", (a / 0x100 % 0x100) as u8);
+    figure(b" ready", a / 0x1_0000 % 2);
+    figure(b" lines", a / 0x100_0000 % 0x100);
+    figure(b" copy", a / 0x1_0000_0000 % 0x200);
+    figure(b" mark", a / 0x2_0000 % 2);
+}
+
+// Sense bytes 0, 1, 2, 22 and 23, the current line, and that line's first cell.
+pub fn state(s: &[u8; 185], page: &[u8; 26929]) {
+    byte(b" | sense", s[19]);
+    byte(b"", s[20]);
+    byte(b"", s[21]);
+    byte(b" ..", s[22]);
+    byte(b"", s[23]);
+    let line = seq::wide(s[15]);
+    count(b" line", line as u64);
+    if line == 0 {
+        return;
+    }
+    if line <= 132 {
+        byte(b" cell", page[(line - 1) * 204]);
+    }
+}
+
+// Sense's reply: bytes 0 to 3, 22 and 23.
+pub fn reply(s: &[u8; 3061]) {
+    byte(b" | reply", s[0]);
+    byte(b"", s[1]);
+    byte(b"", s[2]);
+    byte(b"", s[3]);
+    byte(b" ..", s[22]);
+    byte(b"", s[23]);
 }
