@@ -111,6 +111,27 @@ fn lend(
     )
 }
 
+// In how many bytes each store differs, and how many of these are sense bytes of the state.
+fn changed(
+    state: &State,
+    was_state: &State,
+    page: &Page,
+    was_page: &Page,
+    legends: &Legends,
+    was_legends: &Legends,
+    tables: &Tables,
+    was_tables: &Tables,
+) {
+    let x = &state[..];
+    let y = &was_state[..];
+    show::text(b" | changed");
+    show::differ(b" state", x, y);
+    show::differ(b" sense", &x[19..24], &y[19..24]);
+    show::differ(b" page", page, was_page);
+    show::differ(b" legends", legends, was_legends);
+    show::differ(b" tables", tables, was_tables);
+}
+
 // How many bytes of page, legends and tables are not 00.
 fn filled(state: &State, page: &Page, legends: &Legends, tables: &Tables) {
     show::text(b" | filled");
@@ -153,11 +174,16 @@ fn tell(
     let answer = lend(letter, given, n, lent, &mut buffer, state, page, legends, tables);
     show::answer(answer);
     show::state(state, page);
-    show::text(b" | changed");
-    show::states(state, &was_state);
-    show::differ(b" page", page, &was_page);
-    show::differ(b" legends", legends, &was_legends);
-    show::differ(b" tables", tables, &was_tables);
+    changed(
+        state,
+        &was_state,
+        page,
+        &was_page,
+        legends,
+        &was_legends,
+        tables,
+        &was_tables,
+    );
     show::differ(b" buffer", &buffer, &[7; 3061]);
     filled(state, page, legends, tables);
     if answer % 0x100 == 0 {

@@ -37,14 +37,6 @@ pub fn differ(name: &[u8], a: &[u8], b: &[u8]) {
     figure(name, n);
 }
 
-// How many bytes of the state differ, and how many of these are its sense bytes.
-pub fn states(a: &[u8; 185], b: &[u8; 185]) {
-    let x = &a[..];
-    let y = &b[..];
-    differ(b" state", x, y);
-    differ(b" sense", &x[19..24], &y[19..24]);
-}
-
 // The fields of a packed answer.
 pub fn answer(a: u64) {
     count(b" | number", a % 0x100);
