@@ -1,8 +1,8 @@
 // A printer's lent stores, the calls that are made on them, and what each call gave.
 use crate::show;
 use crate::words;
-use crate::words::Given;
 use crate::words::COMMAND;
+use crate::words::Given;
 ghost use Prim.Native.Nat.{_≤_};
 
 // Each store has room for one byte more than a call is to be lent, the buffer for one more than 15 lines.
@@ -171,7 +171,17 @@ fn tell(
     let was_legends = *legends;
     let was_tables = *tables;
     let mut buffer = [7u8; 3061];
-    let answer = lend(letter, given, n, lent, &mut buffer, state, page, legends, tables);
+    let answer = lend(
+        letter,
+        given,
+        n,
+        lent,
+        &mut buffer,
+        state,
+        page,
+        legends,
+        tables,
+    );
     show::answer(answer);
     show::state(state, page);
     changed(

@@ -1,20 +1,30 @@
--- Stepped where the contents are good, or refused with 9.
+-- Stepped where the contents are good, or refused with 9; what a refused Release leaves is the sense over the state's bytes.
 use Prim.Native.Nat.{_<_}
 use mathlib.Core.Path.{_≡_, sym, _∙_}
 use mathlib.Core.Bool.{true}
 use native.Mathlib.Omega.{arith}
 use borrow.Author.Tests.{not-true, not-false}
-use Rattle.calls.specs.Core.{storesOf}
+use Rattle.calls.specs.Core.{Stores, storesOf}
+use Rattle.calls.specs.Calls.{release}
+use Rattle.bytes.specs.State.{byteAt}
 use Rattle.bytes.specs.Contents.{soundBytes}
-use Rattle.trestlepip.proofs.Calls.{sound-read, sound-good, sound-size, read-so, unread-so}
+use Rattle.trestlepip.proofs.Calls.{sound-read, sound-good, sound-size, read-so, unread-so, sense-so}
 use borrow.Author.Needs.{needs}
 use Rattle.trestlepip.proofs.trestlepip_release.Statement.{statement}
 use Rattle.trestlepip.proofs.trestlepip_release.Tie as tie
 
+abbrev stores : tie.Start → Stores
+stores c = storesOf (c .args .page .now) (c .args .legends .now) (c .args .tables .now)
+
 -- the contents were found good
-sound-at : (c : tie.Else1) → let a = c .before .before .before .before .before .before .before .before .before .before .before .args in
-    soundBytes (a .state .now) (storesOf (a .page .now) (a .legends .now) (a .tables .now)) ≡ true
+abbrev start : tie.Else1 → tie.Start
+start c = c .before .before .before .before .before .before .before .before .before .before .before
+
+sound-at : (c : tie.Else1) → soundBytes (start c .args .state .now) (stores (start c)) ≡ true
 sound-at c = sym (c .before .before .look .ensures .0) ∙ not-false _ (c .if1 .left)
+
+low-at : (c : tie.Else1) → byteAt (start c .args .state .now) 1 < 256
+low-at c = omega (arith, c .before .before .before .before .before .before .before .before .before .before .slice-known .given 1)
 
 pub trestlepip-release-spec : {M : Type 1} → statement M
 trestlepip-release-spec =
@@ -30,12 +40,24 @@ trestlepip-release-spec =
     ∙ not-true _ (c .before .if1 .taken)) (c .unread .ensures))
     (λ c κs. sound-size _ _ (sound-at (c .before)))
     (λ c κs. let d = c .before .before .before in rw (d .decode .ensures) (sound-good _ _ (sound-at (d .before .before))))
-    (λ c κs. sound-size _ _ (sound-at (c .before .before .before .before .before .before .before .before .before .before .before .before .before)))
+    (λ c κs. search needs)
+    (λ c κs. sound-size _ _ (sound-at (c .before .before .before .before .before .before .before .before .before .before .before .before .before .before .before .before)))
     (λ c κs. search needs)
     (λ c. search needs)
     (λ c. search needs)
     (λ c. search needs)
     (λ c. search needs)
-    (λ c. let s = c .before .before .before .before .before .before .before .before .before .before .before in let d = s .before .before .before .before in
+    (λ c. let s = c .before .before .before .before .before .before .before .before .before .before .before .before .before .before in let d = s .before .before .before .before in
     read-so _ _ _ (sound-read _ _ (sound-at (d .before .before))) (d .decode .ensures) (s .release .ensures) (c .pack .ensures)
-    (c .before .before .before .encode .ensures)))
+    (c .before .before .before .encode .ensures))
+    (λ c κs. sound-size _ _ (sound-at (c .before .before .before .before .before .before .before .before .before .before .before .before .before .before .before .before .before)))
+    (λ c κs. search needs)
+    (λ c. search needs)
+    (λ c. search needs)
+    (λ c. search needs)
+    (λ c. search needs)
+    (λ c. let s = c .before .before .before .before .before .before .before .before .before .before .before .before .before .before .before in let d = s .before .before .before .before in let x = d .before .before in let r = sound-read _ _ (sound-at x) in
+    read-so _ _ _ r (d .decode .ensures) (s .release .ensures) (c .pack2 .ensures)
+    (c .before .before .before .put-sense .ensures
+    ∙ sense-so (d .decode .result) (stores (start x)) release (s .release .ensures)
+    (sym (c .before .before .before .before .before .before .before .is-accepted .ensures) ∙ c .before .before .before .before .before .before .if2 .left) _ (low-at x) r (d .decode .ensures))))
