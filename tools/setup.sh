@@ -78,13 +78,19 @@ end_progress() {
     [ ! -t 2 ] || printf '\r\033[K' >&2
 }
 
-# Proves the library and writes its archive, unless the archive is newer than all sources. What rt says is kept, and shown if it refuses.
+# Proves the crates that the library stands on, several at a time, then the library, and writes its archive.
+prove_library() {
+    # shellcheck disable=SC2046
+    rt check $(sed -n 's/^trestlepip://p' crates.txt) && rt staticlib trestlepip
+}
+
+# The library, unless its archive is newer than all sources. What rt says is kept, and shown if it refuses.
 build_library() {
     if [ -e "$LIBRARY" ] && [ -z "$(find crates crates.txt -newer "$LIBRARY")" ]; then return; fi
     mkdir -p target/c
     status=0
     show_progress
-    rt staticlib trestlepip >target/c/rt.out 2>&1 || status=$?
+    prove_library >target/c/rt.out 2>&1 || status=$?
     end_progress
     [ "$status" -eq 0 ] || { cat target/c/rt.out >&2; stop 'rt refuses the library'; }
 }
