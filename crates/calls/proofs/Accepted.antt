@@ -23,7 +23,7 @@ use Rattle.calls.specs.Core.{Stores, Core, sizesOk, P, started}
 use Rattle.calls.specs.Commands.{decode, traitsOf, isUnlisted, isLoad}
 use Rattle.calls.specs.Contents.{coreOk}
 use Rattle.calls.specs.Reset.{senseSize}
-use Rattle.calls.specs.Calls.{command, badRecord, checkOf, commandTests, composeTests, releaseTests, refusalOf}
+use Rattle.calls.specs.Calls.{command, badRecord, checkOf, commandTests, composeTests, refusalOf}
 use Rattle.calls.specs.Start.{startRefusal}
 
 pub record Taken (k : Core) (c : Command) (r reply : List ℕ) : Type 0 where
@@ -97,10 +97,6 @@ composable k n out e =
       high = ltb-false (copyCount (k .state .copies)) n (or-right (eqb n 0) _ (h₃ .0));
       room = ltb-false (length out) (lineBytes * P (k .state)) (h₄ .0);
     }
-
-pub releasable : (k : Core) → firstOr Accepted (releaseTests k) ≡ Accepted → coreOk k ≡ true
-unfolding isAccepted rowOf
-releasable k e = not-false (coreOk k) (passed _ _ (not-accepted refl) e .0)
 
 pub record Startable (len : ℕ) (ps : List ℕ) (m : Stores) : Type 0 where
   pub sizes : sizesOk m ≡ true
