@@ -16,10 +16,10 @@ pub type Tables = [u8; 1025];
 
 pub type Buffer = [u8; 3061];
 
-// How much is lent of state, page, legends, tables and buffer, two bytes each.
-pub type Lent = [u8; 10];
+// How many bytes are lent of state, page, legends, tables and buffer.
+pub type Lent = [usize; 5];
 
-pub const USUAL: Lent = [0x00, 0xB8, 0x69, 0x30, 0x20, 0x00, 0x04, 0x00, 0x0B, 0xF4];
+pub const USUAL: Lent = [184, 26928, 8192, 1024, 3060];
 
 // A number of two bytes.
 fn double(high: u8, low: u8) -> usize
@@ -39,6 +39,26 @@ fn record_of(given: &[u8], n: usize) -> &[u8] {
     &given[1..n]
 }
 
+fn start(
+    given: &Given,
+    state: &mut [u8],
+    page: &mut [u8],
+    legends: &mut [u8],
+    tables: &mut [u8],
+) -> u64 {
+    trestlepip::trestlepip_start(
+        double(given[0], given[1]) as u32,
+        double(0, given[2]) as u32,
+        double(0, given[3]) as u32,
+        double(0, given[4]) as u32,
+        double(0, given[5]) as u32,
+        state,
+        page,
+        legends,
+        tables,
+    )
+}
+
 fn make(
     letter: u8,
     given: &Given,
@@ -50,17 +70,7 @@ fn make(
     tables: &mut [u8],
 ) -> u64 {
     match letter {
-        b'S' => trestlepip::trestlepip_start(
-            double(given[0], given[1]) as u32,
-            double(0, given[2]) as u32,
-            double(0, given[3]) as u32,
-            double(0, given[4]) as u32,
-            double(0, given[5]) as u32,
-            state,
-            page,
-            legends,
-            tables,
-        ),
+        b'S' => start(given, state, page, legends, tables),
         b'C' => trestlepip::trestlepip_compose(
             double(given[0], given[1]) as u32,
             buffer,
@@ -82,6 +92,12 @@ fn make(
     }
 }
 
+// The first n bytes, or all if there are no more.
+fn part(s: &mut [u8], n: usize) -> &mut [u8] {
+    let end = seq::least(n, s.len());
+    &mut s[0..end]
+}
+
 // The call, with as much of each store as is to be lent.
 fn lend(
     letter: u8,
@@ -94,24 +110,28 @@ fn lend(
     legends: &mut [u8],
     tables: &mut [u8],
 ) -> u64 {
-    let states = seq::least(double(lent[0], lent[1]), state.len());
-    let pages = seq::least(double(lent[2], lent[3]), page.len());
-    let texts = seq::least(double(lent[4], lent[5]), legends.len());
-    let codes = seq::least(double(lent[6], lent[7]), tables.len());
-    let buffers = seq::least(double(lent[8], lent[9]), buffer.len());
     make(
         letter,
         given,
         n,
-        &mut buffer[0..buffers],
-        &mut state[0..states],
-        &mut page[0..pages],
-        &mut legends[0..texts],
-        &mut tables[0..codes],
+        part(buffer, lent[4]),
+        part(state, lent[0]),
+        part(page, lent[1]),
+        part(legends, lent[2]),
+        part(tables, lent[3]),
     )
 }
 
-// In how many bytes each store differs, and how many of these are sense bytes of the state.
+// How many bytes of each store are not 00.
+fn filled(state: &State, page: &Page, legends: &Legends, tables: &Tables) {
+    show::text(b" | filled");
+    show::differ(b" state", state, &[0; 184]);
+    show::differ(b" page", page, &[0; 26928]);
+    show::differ(b" legends", legends, &[0; 8192]);
+    show::differ(b" tables", tables, &[0; 1024]);
+}
+
+// In how many bytes each store differs, and how many of these are sense bytes of the state; then what the stores hold.
 fn changed(
     state: &State,
     was_state: &State,
@@ -130,22 +150,18 @@ fn changed(
     show::differ(b" page", page, was_page);
     show::differ(b" legends", legends, was_legends);
     show::differ(b" tables", tables, was_tables);
+    filled(state, page, legends, tables);
 }
 
-// How many bytes of page, legends and tables are not 00.
-fn filled(state: &State, page: &Page, legends: &Legends, tables: &Tables) {
-    show::text(b" | filled");
-    show::differ(b" state", state, &[0; 184]);
-    show::differ(b" page", page, &[0; 26928]);
-    show::differ(b" legends", legends, &[0; 8192]);
-    show::differ(b" tables", tables, &[0; 1024]);
-}
-
-// What an accepted Compose or Sense wrote. Of a copy: cells 1 and 204, how many cells are not 00, and how many are not the page's.
-fn written(letter: u8, code: u8, lent: &Lent, buffer: &Buffer, page: &Page) {
+// What the call wrote into the buffer. Of an accepted copy: cells 1 and 204, how many cells are not 00, and how many are not the page's.
+fn written(answer: u64, letter: u8, code: u8, end: usize, buffer: &Buffer, page: &Page) {
+    show::differ(b" | buffer", buffer, &[7; 3061]);
+    if answer % 0x100 != 0 {
+        return;
+    }
     if letter == b'C' {
-        let out = seq::front(buffer, double(lent[8], lent[9]));
-        show::byte(b" | cell 1", buffer[0]);
+        let out = seq::front(buffer, end);
+        show::byte(b" cell 1", buffer[0]);
         show::byte(b" cell 204", buffer[203]);
         show::differ(b" filled", out, &[0; 3061]);
         show::differ(b" unlike", out, page);
@@ -194,11 +210,7 @@ fn tell(
         tables,
         &was_tables,
     );
-    show::differ(b" buffer", &buffer, &[7; 3061]);
-    filled(state, page, legends, tables);
-    if answer % 0x100 == 0 {
-        written(letter, given[0], lent, &buffer, page);
-    }
+    written(answer, letter, given[0], lent[4], &buffer, page);
 }
 
 fn poke(s: &mut [u8], at: usize, value: u8) -> bool {
@@ -211,13 +223,16 @@ fn poke(s: &mut [u8], at: usize, value: u8) -> bool {
 
 // The sizes that the next call is lent, and whether there is room for them.
 fn resize(given: &Given, lent: &mut Lent) -> bool {
-    let all = &given[..];
-    seq::copy_all(lent, &all[0..10]);
-    (double(given[0], given[1]) <= 185)
-        & (double(given[2], given[3]) <= 26929)
-        & (double(given[4], given[5]) <= 8193)
-        & (double(given[6], given[7]) <= 1025)
-        & (double(given[8], given[9]) <= 3061)
+    lent[0] = double(given[0], given[1]);
+    lent[1] = double(given[2], given[3]);
+    lent[2] = double(given[4], given[5]);
+    lent[3] = double(given[6], given[7]);
+    lent[4] = double(given[8], given[9]);
+    (lent[0] <= 185)
+        & (lent[1] <= 26929)
+        & (lent[2] <= 8193)
+        & (lent[3] <= 1025)
+        & (lent[4] <= 3061)
 }
 
 // One line of the script, and whether it could be read.
