@@ -153,7 +153,8 @@ fn changed(
     filled(state, page, legends, tables);
 }
 
-// What the call wrote into the buffer. Of an accepted copy: cells 1 and 204, how many cells are not 00, and how many are not the page's.
+// What the call wrote into the buffer. Of an accepted copy: cells 1 and 204, how many bytes are not 00, and how many are not the page's. Of an
+// accepted Sense: bytes 0 to 3, 22 and 23.
 fn written(answer: u64, letter: u8, code: u8, end: usize, buffer: &Buffer, page: &Page) {
     show::differ(b" | buffer", buffer, &[7; 3061]);
     if answer % 0x100 != 0 {
@@ -167,7 +168,12 @@ fn written(answer: u64, letter: u8, code: u8, end: usize, buffer: &Buffer, page:
         show::differ(b" unlike", out, page);
     }
     if (letter == COMMAND) & (code == 0x04) {
-        show::reply(buffer);
+        show::byte(b" reply", buffer[0]);
+        show::byte(b"", buffer[1]);
+        show::byte(b"", buffer[2]);
+        show::byte(b"", buffer[3]);
+        show::byte(b" ..", buffer[22]);
+        show::byte(b"", buffer[23]);
     }
 }
 

@@ -64,13 +64,3 @@ pub fn state(s: &[u8; 185], page: &[u8; 26929]) {
         byte(b" cell", page[(line - 1) * 204]);
     }
 }
-
-// Sense's reply: bytes 0 to 3, 22 and 23.
-pub fn reply(s: &[u8; 3061]) {
-    byte(b" reply", s[0]);
-    byte(b"", s[1]);
-    byte(b"", s[2]);
-    byte(b"", s[3]);
-    byte(b" ..", s[22]);
-    byte(b"", s[23]);
-}

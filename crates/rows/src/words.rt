@@ -45,11 +45,6 @@ pub fn letter(line: &[u8]) -> u8 {
     COMMAND
 }
 
-// A hexadecimal digit, 16 for anything else.
-fn digit(c: u8) -> usize {
-    until(b"0123456789ABCDEF", 0, c)
-}
-
 // A hexadecimal number of one to four digits.
 fn number(word: &[u8]) -> usize
     ensures { λ r. ⌜ r ≤ 0x10000 ⌝ }
@@ -60,7 +55,7 @@ fn number(word: &[u8]) -> usize
     let mut value = 0;
     let mut i = 0;
     while i < word.len() {
-        let next = digit(word[i]);
+        let next = until(b"0123456789ABCDEF", 0, word[i]);
         if 15 < next {
             return WRONG;
         }

@@ -6,10 +6,10 @@ use Rattle.rows.proofs.words.number.Statement.{statement}
 use Rattle.rows.proofs.words.number.Tie as tie
 
 abbrev Inv-loop : tie.InvT-loop
-Inv-loop word value₀ i₀ value i = (value ≤ 0xFFFF) × (i ≤ length word)
+Inv-loop word value₀ i₀ digits value i = (value ≤ 0xFFFF) × (i ≤ length word)
 
 abbrev μ-loop : tie.MeasureT-loop
-μ-loop word value₀ i₀ value i = length word - i
+μ-loop word value₀ i₀ digits value i = length word - i
 
 pub number-spec : {M : Type 1} → statement M
 number-spec =
@@ -21,6 +21,7 @@ number-spec =
     (λ c. search needs)
     (λ c. search needs)
     (λ c. search needs)
+    (λ c κs. search needs)
     (λ c. search needs)
     (λ c. search needs)
     (λ c. search needs)
