@@ -5,7 +5,7 @@ use crate::words::COMMAND;
 use crate::words::Given;
 ghost use Prim.Native.Nat.{_≤_};
 
-// Each store has room for one byte more than a call is to be lent, the buffer for one more than 15 lines.
+// Each store has room for one byte more than it is to have, and the buffer for one more than 15 lines, so that too much can be lent.
 pub type State = [u8; 185];
 
 pub type Page = [u8; 26929];
@@ -28,15 +28,13 @@ fn double(high: u8, low: u8) -> usize
     seq::wide(high) * 256 + seq::wide(low)
 }
 
-// What follows a command's byte.
+// What follows the first of n bytes.
 fn record_of(given: &[u8], n: usize) -> &[u8] {
-    if n == 0 {
-        return given;
+    let all = seq::front(given, n);
+    if all.len() == 0 {
+        return all;
     }
-    if given.len() < n {
-        return given;
-    }
-    &given[1..n]
+    &all[1..]
 }
 
 fn start(

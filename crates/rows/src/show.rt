@@ -1,6 +1,7 @@
 // What the lines of output are made of. Numbers are decimal, bytes two hexadecimal digits.
+use crate::bench::Page;
+use crate::bench::State;
 use libc::STDOUT_FILENO;
-ghost use Prim.Native.Nat.{_≤_};
 
 pub fn text(s: &[u8]) {
     io::write_all(STDOUT_FILENO, s);
@@ -49,7 +50,7 @@ pub fn answer(a: u64) {
 }
 
 // Sense bytes 0, 1, 2, 22 and 23, the current line, and that line's first cell.
-pub fn state(s: &[u8; 185], page: &[u8; 26929]) {
+pub fn state(s: &State, page: &Page) {
     byte(b" | sense", s[19]);
     byte(b"", s[20]);
     byte(b"", s[21]);
