@@ -45,7 +45,7 @@ pub fn letter(line: &[u8]) -> u8 {
     COMMAND
 }
 
-// A hexadecimal number of one to four digits.
+// A hexadecimal number, up to FFFF.
 fn number(word: &[u8]) -> usize
     ensures { λ r. ⌜ r ≤ 0x10000 ⌝ }
 {
