@@ -4,11 +4,11 @@ use form::Kept;
 use form::Layout;
 ghost use mathlib.Core.Path.{_≡_};
 ghost use mathlib.Core.Bool.{true, _&&_};
-ghost use mathlib.Core.List.{[], _∷_};
-ghost use Prim.Native.Nat.{_+_, _*_};
+ghost use mathlib.Core.List.{List, [], _∷_};
+ghost use Prim.Native.Nat.{ℕ, _+_, _*_};
 ghost use lib.ListN.{length};
 ghost use Rattle.form.specs.Form.{formOk, formsInRange};
-ghost use Rattle.calls.specs.Core.{storesOf, laidOut};
+ghost use Rattle.calls.specs.Core.{storesOf, sizesOk, laidOut};
 ghost use Rattle.calls.specs.Contents.{dueOk, markOk};
 ghost use Rattle.bytes.specs.State.{byteAt, printerOf};
 ghost use Rattle.bytes.specs.Contents.{fieldsOk, copiesOk, formsLineOk, stateOk, soundBytes};
@@ -117,14 +117,13 @@ fn look_at_state(s: &[u8]) -> Found
     }
 }
 
-// The sizes first and the legends last: an end between the parts spares what is left, and the legends are the longest part.
-pub fn look(state: &[u8], page: &[u8], legends: &[u8], tables: &[u8]) -> Found
-    ensures sound { λ r. ⌜ r .sound ≡ soundBytes (now (state .entry)) (storesOf (now (page .entry)) (now (legends .entry)) (now (tables .entry))) ⌝ }
+// What is lent has its sizes. An end between the parts spares what is left, and the legends, which are the longest part, come last.
+pub fn look(state: &[u8], legends: &[u8]) -> Found
+    requires { ⌜ length (now legends) ≡ 8192 ⌝ }
+    ensures sound { λ r. ⌜ ((p t : List ℕ) → let m = storesOf p (now (legends .entry)) t in
+        sizesOk m ≡ true → r .sound ≡ soundBytes (now (state .entry)) m) ⌝ }
     ensures form { λ r. ⌜ (r .sound ≡ true → r .form ≡ laidOut (printerOf (now (state .entry)) .state)) ⌝ }
 {
-    if !calls::sizes_ok(page, legends, tables) {
-        return Found::NONE;
-    }
     if !state::is_readable(state) {
         return Found::NONE;
     }

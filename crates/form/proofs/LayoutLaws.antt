@@ -15,8 +15,8 @@ use Rattle.seq.proofs.Laws.{cond-has}
 use Rattle.form.specs.declared.Forms.{Forms}
 use Rattle.form.specs.declared.Layout.{Layout}
 use Rattle.form.specs.declared.fcb.Pass.{Pass}
-use Rattle.form.specs.Form.{upper, channel, units, halfInch, runs, runsFrom, unitsTotal, between, linesWhere, printable, edges, badChannel, otherUpper, oddRun, layoutOf, layoutCheck, fcbCheck, fcbNow}
-use Rattle.form.specs.Pass.{set, start, stepOf}
+use Rattle.form.specs.Form.{upper, channel, units, halfInch, runs, runsFrom, unitsTotal, between, linesWhere, printable, edges, badChannel, otherUpper, oddRun, layoutOf, layoutCheck, fcbCheck, fcbNow, hasChannel}
+use Rattle.form.specs.Pass.{start, stepOf}
 use Rattle.form.proofs.FormLaws.{odd}
 
 -- Runs are whole half inches exactly where every change of spacing, and the end, is a whole number of half inches down.
@@ -73,7 +73,7 @@ module _ (len : ℕ) where
         channel = s .channel || badChannel f;
         spacing = (s .other || otherUpper f) || (s .odd || oddFrom (s .upper) (s .units) f);
         units = s .units + unitsTotal f;
-        edge = s .edge || any set (linesWhere edgy (s .units) f);
+        edge = s .edge || any hasChannel (linesWhere edgy (s .units) f);
         top = s .top + length (linesWhere first (s .units) f);
         lines = s .lines + length (linesWhere (between len) (s .units) f);
       }
@@ -86,7 +86,7 @@ module _ (len : ℕ) where
         channel = badChannel f;
         spacing = otherUpper f || odd-start f i;
         units = zero-add (unitsTotal f) i;
-        edge = any set (linesWhere edgy 0 f);
+        edge = any hasChannel (linesWhere edgy 0 f);
         top = zero-add (length (linesWhere first 0 f)) i;
         lines = zero-add (length (linesWhere (between len) 0 f)) i;
       }
@@ -106,8 +106,8 @@ module _ (len : ℕ) where
             || or-assoc (s .odd) (not (eqb (upper b) (s .upper)) && odd at) (oddFrom (upper b) (at + units b) bs) i;
         units = add-assoc at (units b) (unitsTotal bs) i;
         edge =
-            (or-assoc (s .edge) (edgy at && set b) (any set (linesWhere edgy (at + units b) bs))
-            ∙ ap (λ (v : Bool). s .edge || v) (any-line set (edgy at) b (linesWhere edgy (at + units b) bs)))
+            (or-assoc (s .edge) (edgy at && hasChannel b) (any hasChannel (linesWhere edgy (at + units b) bs))
+            ∙ ap (λ (v : Bool). s .edge || v) (any-line hasChannel (edgy at) b (linesWhere edgy (at + units b) bs)))
             i;
         top = counted (s .top) first i;
         lines = counted (s .lines) (between len) i;

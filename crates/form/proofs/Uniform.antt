@@ -15,8 +15,8 @@ use Rattle.seq.specs.Words.{any, every}
 use Rattle.seq.proofs.Laws.{and-left, and-right, or-left, or-right}
 use Rattle.seq.proofs.Loops.{any-append, any-split, any-not-all}
 use Rattle.form.specs.declared.Layout.{Layout}
-use Rattle.form.specs.Form.{upper, unitsOf, units, halfInch, runs, runsFrom, unitsTotal, between, linesWhere, printable, edges, badChannel, otherUpper, oddRun, layoutOf, formsInRange}
-use Rattle.form.specs.Pass.{set, astray, uniform, loose}
+use Rattle.form.specs.Form.{upper, unitsOf, units, halfInch, runs, runsFrom, unitsTotal, between, linesWhere, printable, edges, badChannel, otherUpper, oddRun, layoutOf, formsInRange, hasChannel}
+use Rattle.form.specs.Pass.{astray, uniform, loose}
 use Rattle.form.proofs.FormLaws.{odd, units-has}
 
 -- No byte of a list is astray from the upper half u.
@@ -142,7 +142,7 @@ module _ (u k len : ℕ) (f : List ℕ) (s : straight u f) (n : Counts (unitsOf 
     channel = false;
     spacing = odd len;
     units = len;
-    edge = any set top || any set foot;
+    edge = any hasChannel top || any hasChannel foot;
     top = k;
     lines = length f - k - k;
   }
@@ -155,7 +155,7 @@ module _ (u k len : ℕ) (f : List ℕ) (s : straight u f) (n : Counts (unitsOf 
         channel = none-of u (λ b. ltb 12 (b % 16)) (λ b e. or-right (not (eqb (upper b) u)) _ e) f s i;
         spacing = (ap (λ (t : Bool). t || oddRun f) known ∙ runs-straight u f s ∙ ap odd sum) i;
         units = sum i;
-        edge = (ap (any set) edge-lines ∙ any-append set top foot) i;
+        edge = (ap (any hasChannel) edge-lines ∙ any-append hasChannel top foot) i;
         top = (ap length first-lines ∙ length-take-le k f (omega arith)) i;
         lines = (ap length inner-lines ∙ length-take-le (length f - k - k) (drop k f) (rw length-drop (omega arith))) i;
       }
@@ -172,7 +172,7 @@ pub layout-uniform : (len : ℕ) (f : List ℕ) → uniform len f ≡ true → l
   channel = false;
   spacing = odd len;
   units = len;
-  edge = any set (take (halfInchLines f) f) || any set (drop (length f - halfInchLines f) f);
+  edge = any hasChannel (take (halfInchLines f) f) || any hasChannel (drop (length f - halfInchLines f) f);
   top = halfInchLines f;
   lines = length f - halfInchLines f - halfInchLines f;
 }
@@ -185,7 +185,7 @@ layout-uniform len f e =
     layout-parts u (halfInchLines f) len f (not-true (any (astray u) f) (and-right fills _ h)) n
 
 -- A byte of the upper half differs from it by its channel; any other differs by more than 12, round the end of the bytes if it lies below.
-pub differs : (u b d : ℕ) → u ≤ 15 → d < 256 → (d + 16 * u) % 256 ≡ b → ltb 12 d ≡ astray u b
+differs : (u b d : ℕ) → u ≤ 15 → d < 256 → (d + 16 * u) % 256 ≡ b → ltb 12 d ≡ astray u b
 differs u b d h l e = go (eqb (b / 16) u) refl (ltb 12 (b % 16)) refl
   where
     go : (s : Bool) → eqb (b / 16) u ≡ s → (t : Bool) → ltb 12 (b % 16) ≡ t → ltb 12 d ≡ (not s || t)

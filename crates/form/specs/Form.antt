@@ -77,8 +77,11 @@ unfoldable pub edges : ℕ → List ℕ → List ℕ
 edges len f = linesWhere (λ off. not (between len off)) 0 f
 
 -- The checks of the paper's list of four, by name.
+abbrev pub highChannel : ℕ → Bool
+highChannel b = ltb 12 (channel b)
+
 abbrev pub badChannel : List ℕ → Bool
-badChannel f = any (λ b. ltb 12 (channel b)) f
+badChannel f = any highChannel f
 
 abbrev pub otherUpper : List ℕ → Bool
 otherUpper f = any (λ b. eqb (units b) 0) f
@@ -87,8 +90,11 @@ otherUpper f = any (λ b. eqb (units b) 0) f
 abbrev pub oddRun : List ℕ → Bool
 oddRun f = any (λ n. not (eqb (n % halfInch) 0)) (runs f)
 
+abbrev pub hasChannel : ℕ → Bool
+hasChannel b = not (eqb (channel b) 0)
+
 abbrev pub edgeChannel : ℕ → List ℕ → Bool
-edgeChannel len f = any (λ b. not (eqb (channel b) 0)) (edges len f)
+edgeChannel len f = any hasChannel (edges len f)
 
 -- All that the checks ask, each by its definition; and where the printable lines begin, with their number.
 unfoldable pub layoutOf : ℕ → List ℕ → Layout

@@ -1,4 +1,5 @@
--- What the code carries from byte to byte of an FCB. That it comes to the layout is proved in proofs/LayoutLaws (`joined-start`, `-step`, `-end`).
+-- What the code carries from byte to byte of an FCB, and what it asks of one to spare the pass. That the first comes to the layout is proved in
+-- proofs/LayoutLaws (`joined-start`, `-step`, `-end`), that the second gives it in proofs/Uniform.
 use Prim.Native.Nat.{ℕ, _+_, _*_, _/_, _%_}
 use mathlib.Core.Bool.{Bool, false, not, _&&_, _||_}
 use mathlib.Core.List.{List}
@@ -6,11 +7,7 @@ use lib.ListN.{length, getD, take, drop}
 use lib.Dec.{eqb, leb, ltb}
 use Rattle.seq.specs.Words.{any, bit}
 use Rattle.form.specs.declared.fcb.Pass.{Pass}
-use Rattle.form.specs.Form.{upper, channel, units, halfInch}
-
--- a line with a channel
-abbrev pub set : ℕ → Bool
-set b = not (eqb (channel b) 0)
+use Rattle.form.specs.Form.{upper, units, halfInch, highChannel, hasChannel}
 
 -- Before the first byte; its upper half does not matter, since a run that ends at 0 units is not odd.
 unfoldable pub start : Pass
@@ -23,19 +20,18 @@ stepOf last s b =
     let inside : Bool = leb halfInch (s .units) && ltb (s .units) last in
     record {
       upper = upper b;
-      channel = s .channel || ltb 12 (channel b);
+      channel = s .channel || highChannel b;
       other = s .other || eqb (units b) 0;
       odd = s .odd || (not (eqb (upper b) (s .upper)) && not (eqb (s .units % halfInch) 0));
       units = s .units + units b;
-      edge = s .edge || (not inside && set b);
+      edge = s .edge || (not inside && hasChannel b);
       top = s .top + bit (ltb (s .units) halfInch) 1;
       lines = s .lines + bit inside 1;
     }
 
--- What the code asks before it passes over an FCB; that the layout is known where it holds is proved in proofs/Uniform. A byte is astray if it has
--- another upper half than u, or a bad channel.
+-- A byte is astray if it has another upper half than u, or a bad channel.
 abbrev pub astray : ℕ → ℕ → Bool
-astray u b = not (eqb (upper b) u) || ltb 12 (channel b)
+astray u b = not (eqb (upper b) u) || highChannel b
 
 -- The FCB has room for both edge half inches at any spacing, fills the form, and no byte is astray from the first.
 unfoldable pub uniform : ℕ → List ℕ → Bool

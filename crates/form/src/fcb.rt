@@ -11,9 +11,9 @@ ghost use Prim.Native.Nat.{_+_, _-_, _/_, _%_, _≤_};
 ghost use lib.Dec.{eqb, ltb};
 ghost use lib.ListN.{length, take};
 ghost use Rattle.seq.specs.Words.{any, listed};
-ghost use Rattle.form.specs.Form.{formLengths, pitchesListed, formOk, unitsOf, halfInch};
+ghost use Rattle.form.specs.Form.{formLengths, pitchesListed, formOk, unitsOf, halfInch, hasChannel};
 ghost use Rattle.form.specs.Form.{layoutOf, layoutCheck, fcbCheck, formsOf, formsInRange};
-ghost use Rattle.form.specs.Pass.{stepOf, astray, set, uniform, loose};
+ghost use Rattle.form.specs.Pass.{stepOf, astray, uniform, loose};
 
 const HALF_INCH: u16 = 12;
 
@@ -88,7 +88,7 @@ fn less(a: u16, b: u16) -> u16
 }
 
 // One pass over an FCB.
-fn fold(form: u16, fcb: &[u8]) -> Layout
+pub fn lay_out(form: u16, fcb: &[u8]) -> Layout
     requires { ⌜ length (now fcb) ≤ 8192 ⌝ }
     ensures { λ r. ⌜ r ≡ layoutOf form (now (fcb .entry)) ⌝ }
 {
@@ -118,29 +118,8 @@ fn fold(form: u16, fcb: &[u8]) -> Layout
     }
 }
 
-// One difference tests both halves of the byte: below the upper half it wraps, and is past 12 all the more.
-fn is_astray(upper: u8, b: u8) -> bool
-    requires { ⌜ upper ≤ 15 ⌝ }
-    ensures { λ r. ⌜ r ≡ astray upper b ⌝ }
-{
-    12 < std::num::wrapping_sub_u8(b, 16 * upper)
-}
-
-fn any_astray(upper: u8, fcb: &[u8]) -> bool
-    requires { ⌜ upper ≤ 15 ⌝ }
-    ensures { λ r. ⌜ r ≡ any (astray upper) (now (fcb .entry)) ⌝ }
-{
-    let mut found = false;
-    let mut i = 0;
-    while i < fcb.len() {
-        found = found | is_astray(upper, fcb[i]);
-        i += 1;
-    }
-    found
-}
-
 fn any_channel(lines: &[u8]) -> bool
-    ensures { λ r. ⌜ r ≡ any set (now (lines .entry)) ⌝ }
+    ensures { λ r. ⌜ r ≡ any hasChannel (now (lines .entry)) ⌝ }
 {
     let mut found = false;
     let mut i = 0;
@@ -167,18 +146,6 @@ fn half_inch_lines(upper: u8) -> u16
     0
 }
 
-fn is_uniform(form: u16, fcb: &[u8]) -> bool
-    requires { ⌜ length (now fcb) ≤ 8192 ⌝ }
-    ensures { λ r. ⌜ r ≡ uniform form (now (fcb .entry)) ⌝ }
-{
-    if fcb.len() < 12 {
-        return false;
-    }
-    let upper = fcb[0] / 16;
-    let k = half_inch_lines(upper);
-    (12 * fcb.len() == k as usize * form as usize) & !any_astray(upper, fcb)
-}
-
 fn lay_out_uniform(form: u16, fcb: &[u8]) -> Layout
     requires { ⌜ 12 ≤ length (now fcb) ⌝ }
     requires { ⌜ length (now fcb) ≤ 8192 ⌝ }
@@ -198,17 +165,6 @@ fn lay_out_uniform(form: u16, fcb: &[u8]) -> Layout
         top: top,
         lines: (last - k) as u16,
     }
-}
-
-// Most FCBs have one spacing throughout, and their layout is known without the pass.
-pub fn lay_out(form: u16, fcb: &[u8]) -> Layout
-    requires { ⌜ length (now fcb) ≤ 8192 ⌝ }
-    ensures { λ r. ⌜ r ≡ layoutOf form (now (fcb .entry)) ⌝ }
-{
-    if is_uniform(form, fcb) {
-        return lay_out_uniform(form, fcb);
-    }
-    fold(form, fcb)
 }
 
 pub fn layout_check(form: u16, layout: Layout) -> Checked
@@ -237,7 +193,8 @@ pub fn fcb_check(form: u16, fcb: &[u8]) -> Checked
     layout_check(form, layout)
 }
 
-// The byte at place k, by the difference of `is_astray`: after the count any but 00 is loose.
+// The byte at place k. One difference tests both halves of it: below the upper half it wraps, and is past 12 all the more. After the count any
+// but 00 is loose.
 fn is_loose(upper: u8, count: u8, k: u8, b: u8) -> bool
     requires { ⌜ upper ≤ 15 ⌝ }
     ensures { λ r. ⌜ r ≡ cond (ltb k count) (astray upper b) (not (eqb b 0)) ⌝ }
@@ -288,7 +245,7 @@ fn kept_mixed(form: u16, fcb: &[u8], count: u8) -> Kept
 {
     let n = seq::wide(count);
     let zero = seq::zero_from(fcb, n);
-    let layout = fold(form, seq::front(fcb, n));
+    let layout = lay_out(form, seq::front(fcb, n));
     Kept {
         range: (count <= 144) & zero,
         layout: layout,

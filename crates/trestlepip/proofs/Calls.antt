@@ -11,7 +11,7 @@ use Rattle.numbers.specs.declared.Sense.{Sense}
 use Rattle.numbers.specs.declared.Refusal.the-variants.{Accepted, NoPage, BadIndex, TooShort, BadStore}
 use Rattle.numbers.specs.Numbers.{rowOf, isAccepted, only, senseAfter}
 use Rattle.calls.specs.declared.State.{State}
-use Rattle.calls.specs.Core.{Stores, World}
+use Rattle.calls.specs.Core.{Stores, World, sizesOk}
 use Rattle.calls.specs.Contents.{coreOk}
 use Rattle.calls.specs.Effects.{Effect, refused}
 use Rattle.calls.specs.Calls.{Call, compose, doCompose, perform, lent, refusalOf, Outcome, step}
@@ -25,6 +25,7 @@ use Rattle.bytes.specs.State.{stateSize, bytesOf, byteAt, printerOf, readable, 
 use Rattle.bytes.specs.Contents.{soundBytes}
 use Rattle.bytes.specs.Packed.{packed}
 use Rattle.bytes.proofs.Round.{back, back-sense, readable-size}
+use Rattle.bytes.proofs.Parts.{sound-parts}
 use Rattle.trestlepip.specs.Face.{printerIn, shown, unread, called, callBytes, startBytes}
 
 -- What a call did, as the host finds it: its answer packed, its printer's bytes.
@@ -52,6 +53,10 @@ module _ (s : List ℕ) (m : Stores) (c : Call) where
   pub unread-so : {answer : ℕ} → byteAt s 1 < 256 → soundBytes s m ≡ false → answer ≡ packed (only BadStore 0)
       → called answer (lent c) s m ≡ callBytes s m c
   unread-so low e a = rw a (sym (nine-seen low e))
+
+-- Stores of wrong sizes are never sound.
+pub no-sizes : (s : List ℕ) (m : Stores) → sizesOk m ≡ false → soundBytes s m ≡ false
+no-sizes s m e = rw (sound-parts s m, e)
 
 -- Sound bytes stand for a printer, and are as many as a state has; its contents are good.
 pub sound-read : (s : List ℕ) (m : Stores) → soundBytes s m ≡ true → readable s ≡ true

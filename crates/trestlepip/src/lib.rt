@@ -47,7 +47,10 @@ pub extern "C" fn trestlepip_command(
         ≡ callBytes (now (state .entry)) (storesOf (now (page .entry)) (now (legends .entry)) (now (tables .entry)))
         (command byte (now (sent .entry)) (now (reply .entry))) ⌝ }
 {
-    let found = contents::look(state, page, legends, tables);
+    if !calls::sizes_ok(page, legends, tables) {
+        return answer::unread();
+    }
+    let found = contents::look(state, legends);
     if !found.sound {
         return answer::unread();
     }
@@ -77,7 +80,10 @@ pub extern "C" fn trestlepip_compose(
     ensures { λ r. ⌜ (let m = storesOf (now (page .entry)) (now (legends .entry)) (now (tables .entry)) in
         called r (now (out .exit)) (now (state .entry)) m ≡ callBytes (now (state .entry)) m (compose copy (now (out .entry)))) ⌝ }
 {
-    let found = contents::look(state, page, legends, tables);
+    if !calls::sizes_ok(page, legends, tables) {
+        return answer::unread();
+    }
+    let found = contents::look(state, legends);
     if !found.sound {
         return answer::unread();
     }
@@ -96,7 +102,10 @@ pub extern "C" fn trestlepip_release(
     ensures { λ r. ⌜ called r [] (now (state .exit)) (storesOf (now (page .exit)) (now (legends .exit)) (now (tables .exit)))
         ≡ callBytes (now (state .entry)) (storesOf (now (page .entry)) (now (legends .entry)) (now (tables .entry))) release ⌝ }
 {
-    let found = contents::look(state, page, legends, tables);
+    if !calls::sizes_ok(page, legends, tables) {
+        return answer::unread();
+    }
+    let found = contents::look(state, legends);
     if !found.sound {
         return answer::unread();
     }

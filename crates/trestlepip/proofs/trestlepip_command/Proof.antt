@@ -4,11 +4,12 @@ use mathlib.Core.Path.{_≡_, sym, _∙_}
 use mathlib.Core.Bool.{true}
 use native.Mathlib.Omega.{arith}
 use borrow.Author.Tests.{not-true, not-false}
-use Rattle.calls.specs.Core.{Stores, storesOf}
+use Rattle.calls.specs.Core.{Stores, storesOf, sizesOk}
 use Rattle.calls.specs.Calls.{Call, command}
+use Rattle.calls.proofs.Good.{sizes-good}
 use Rattle.bytes.specs.State.{byteAt}
 use Rattle.bytes.specs.Contents.{soundBytes}
-use Rattle.trestlepip.proofs.Calls.{sound-read, sound-good, sound-size, read-so, unread-so, sense-so}
+use Rattle.trestlepip.proofs.Calls.{no-sizes, sound-read, sound-good, sound-size, read-so, unread-so, sense-so}
 use borrow.Author.Needs.{needs}
 use Rattle.trestlepip.proofs.trestlepip_command.Statement.{statement}
 use Rattle.trestlepip.proofs.trestlepip_command.Tie as tie
@@ -19,15 +20,22 @@ stores c = storesOf (c .args .page .now) (c .args .legends .now) (c .args .table
 abbrev call : tie.Start → Call
 call c = command (c .args .byte) (c .args .sent .now) (c .args .reply .now)
 
--- the contents were found good
+-- the sizes are right
 abbrev start : tie.Else1 → tie.Start
-start c = c .before .before .before .before .before .before .before .before .before .before .before .before .before
+start c = c .before .before .before .before .before .before .before .before .before .before .before
 
-sound-at : (c : tie.Else1) → soundBytes (start c .args .state .now) (stores (start c)) ≡ true
-sound-at c = sym (c .before .before .look .ensures .0) ∙ not-false _ (c .if1 .left)
+sizes-at : (c : tie.Else1) → sizesOk (stores (start c)) ≡ true
+sizes-at c = sym (c .before .sizes-ok .ensures) ∙ not-false _ (c .if1 .left)
 
 low-at : (c : tie.Else1) → byteAt (start c .args .state .now) 1 < 256
-low-at c = omega (arith, c .before .before .before .before .before .before .before .before .before .before .slice-known2 .given 1)
+low-at c = omega (arith, c .before .before .before .before .before .before .before .before .slice-known2 .given 1)
+
+-- and the contents were found good
+abbrev sized : tie.Else2 → tie.Else1
+sized c = c .before .before .before .before .before
+
+sound-at : (c : tie.Else2) → soundBytes (start (sized c) .args .state .now) (stores (start (sized c))) ≡ true
+sound-at c = sym (c .before .before .look .ensures .0 _ _ (sizes-at (sized c))) ∙ not-false _ (c .if2 .left)
 
 pub trestlepip-command-spec : {M : Type 1} → statement M
 trestlepip-command-spec =
@@ -38,12 +46,19 @@ trestlepip-command-spec =
     (λ c. search needs)
     (λ c. search needs)
     (λ c. search needs)
+    (λ c. unread-so _ _ _ (omega (arith, c .before .before .before .before .before .before .before .before .before .slice-known2 .given 1)) (no-sizes _ _ (sym (c .before .before .sizes-ok .ensures)
+    ∙ not-true _ (c .before .if1 .taken))) (c .unread .ensures))
+    (λ c κs. sizes-good _ (sizes-at (c .before .before)) .legends)
+    (λ c κs. search needs)
     (λ c. search needs)
-    (λ c. unread-so _ _ _ (omega (arith, c .before .before .before .before .before .before .before .before .before .before .before .slice-known2 .given 1)) (sym (c .before .before .before .look .ensures .0)
-    ∙ not-true _ (c .before .if1 .taken)) (c .unread .ensures))
+    (λ c. search needs)
+    (λ c. search needs)
+    (λ c. search needs)
+    (λ c. let x = c .before .before .before .before .before .before in unread-so _ _ _ (low-at x) (sym (c .before .before .before .look .ensures .0 _ _ (sizes-at x))
+    ∙ not-true _ (c .before .if2 .taken)) (c .unread2 .ensures))
     (λ c κs. sound-size _ _ (sound-at (c .before)))
     (λ c κs. let d = c .before .before .before .before in let x = d .before .before in
-    (rw (d .decode .ensures) (x .before .before .look .ensures .1 (not-false _ (x .if1 .left))), rw (d .decode .ensures) (sound-good _ _ (sound-at x))))
+    (rw (d .decode .ensures) (x .before .before .look .ensures .1 (not-false _ (x .if2 .left))), rw (d .decode .ensures) (sound-good _ _ (sound-at x))))
     (λ c κs. search needs)
     (λ c κs. sound-size _ _ (sound-at (c .before .before .before .before .before .before .before .before .before .before .before .before .before .before .before .before .before .before .before)))
     (λ c κs. search needs)
@@ -63,7 +78,8 @@ trestlepip-command-spec =
     (λ c. search needs)
     (λ c. search needs)
     (λ c. let s = c .before .before .before .before .before .before .before .before .before .before .before .before .before .before .before .before .before in let d = s .before .before .before .before .before in let x = d .before .before in let r = sound-read _ _ (sound-at x) in
+    let a = start (sized x) in
     read-so _ _ _ r (d .decode .ensures) (s .command .ensures) (c .pack2 .ensures)
     (c .before .before .before .put-sense .ensures
-    ∙ sense-so (d .decode .result) (stores (start x)) (call (start x)) (s .command .ensures)
-    (sym (c .before .before .before .before .before .before .before .is-accepted .ensures) ∙ c .before .before .before .before .before .before .if2 .left) _ (low-at x) r (d .decode .ensures))))
+    ∙ sense-so (d .decode .result) (stores a) (call a) (s .command .ensures)
+    (sym (c .before .before .before .before .before .before .before .is-accepted .ensures) ∙ c .before .before .before .before .before .before .if3 .left) _ (low-at (sized x)) r (d .decode .ensures))))

@@ -1,25 +1,42 @@
 -- Stepped where the contents are good, or refused with 9; either way the state is left as it was.
+use Prim.Native.Nat.{_<_}
 use mathlib.Core.Path.{_≡_, sym, ap, _∙_}
 use mathlib.Core.Bool.{true}
 use native.Mathlib.Omega.{arith}
 use borrow.Author.Tests.{not-true, not-false}
-use Rattle.calls.specs.Core.{storesOf}
-use Rattle.bytes.specs.State.{bytesOf, printerOf}
+use Rattle.calls.specs.Core.{Stores, storesOf, sizesOk}
+use Rattle.calls.proofs.Good.{sizes-good}
+use Rattle.bytes.specs.State.{byteAt, bytesOf, printerOf}
 use Rattle.bytes.specs.Contents.{soundBytes}
 use Rattle.bytes.proofs.Round.{back}
-use Rattle.trestlepip.proofs.Calls.{sound-read, sound-good, sound-size, read-so, unread-so, compose-printer}
+use Rattle.trestlepip.proofs.Calls.{no-sizes, sound-read, sound-good, sound-size, read-so, unread-so, compose-printer}
 use borrow.Author.Needs.{needs}
 use Rattle.trestlepip.proofs.trestlepip_compose.Statement.{statement}
 use Rattle.trestlepip.proofs.trestlepip_compose.Tie as tie
 
--- the contents were found good
-sound-at : (c : tie.Else1) → let a = c .before .before .before .before .before .before .before .before .args in
-    soundBytes (a .state .now) (storesOf (a .page .now) (a .legends .now) (a .tables .now)) ≡ true
-sound-at c = sym (c .before .before .look .ensures .0) ∙ not-false _ (c .if1 .left)
+abbrev stores : tie.Start → Stores
+stores c = storesOf (c .args .page .now) (c .args .legends .now) (c .args .tables .now)
 
--- and the state's bytes are those of the printer that they stand for
-handed-back : (c : tie.Else1) → let s = c .before .before .before .before .before .before .before .before .args .state .now in bytesOf (printerOf s) ≡ s
-handed-back c = back _ (omega (arith, c .before .before .before .before .before .before .shared-slice-known .given 1)) (sound-read _ _ (sound-at c))
+-- the sizes are right
+abbrev start : tie.Else1 → tie.Start
+start c = c .before .before .before .before .before .before .before
+
+sizes-at : (c : tie.Else1) → sizesOk (stores (start c)) ≡ true
+sizes-at c = sym (c .before .sizes-ok .ensures) ∙ not-false _ (c .if1 .left)
+
+low-at : (c : tie.Else1) → byteAt (start c .args .state .now) 1 < 256
+low-at c = omega (arith, c .before .before .before .before .before .shared-slice-known .given 1)
+
+-- and the contents were found good
+abbrev sized : tie.Else2 → tie.Else1
+sized c = c .before .before .before
+
+sound-at : (c : tie.Else2) → soundBytes (start (sized c) .args .state .now) (stores (start (sized c))) ≡ true
+sound-at c = sym (c .before .before .look .ensures .0 _ _ (sizes-at (sized c))) ∙ not-false _ (c .if2 .left)
+
+-- so that the state's bytes are those of the printer that they stand for
+handed-back : (c : tie.Else2) → let s = start (sized c) .args .state .now in bytesOf (printerOf s) ≡ s
+handed-back c = back _ (low-at (sized c)) (sound-read _ _ (sound-at c))
 
 pub trestlepip-compose-spec : {M : Type 1} → statement M
 trestlepip-compose-spec =
@@ -27,11 +44,15 @@ trestlepip-compose-spec =
     (tie.spec
     (λ c κs. search needs)
     (λ c κs. search needs)
-    (λ c. unread-so _ _ _ (omega (arith, c .before .before .before .before .before .before .before .shared-slice-known .given 1)) (sym (c .before .before .before .look .ensures .0)
-    ∙ not-true _ (c .before .if1 .taken)) (c .unread .ensures))
+    (λ c. unread-so _ _ _ (omega (arith, c .before .before .before .before .before .before .shared-slice-known .given 1)) (no-sizes _ _ (sym (c .before .before .sizes-ok .ensures)
+    ∙ not-true _ (c .before .if1 .taken))) (c .unread .ensures))
+    (λ c κs. sizes-good _ (sizes-at c) .legends)
+    (λ c κs. search needs)
+    (λ c. let x = c .before .before .before .before in unread-so _ _ _ (low-at x) (sym (c .before .before .before .look .ensures .0 _ _ (sizes-at x))
+    ∙ not-true _ (c .before .if2 .taken)) (c .unread2 .ensures))
     (λ c κs. sound-size _ _ (sound-at c))
     (λ c κs. let d = c .before in let x = d .before in
-    (rw (d .decode .ensures) (x .before .before .look .ensures .1 (not-false _ (x .if1 .left))), rw (d .decode .ensures) (sound-good _ _ (sound-at x))))
+    (rw (d .decode .ensures) (x .before .before .look .ensures .1 (not-false _ (x .if2 .left))), rw (d .decode .ensures) (sound-good _ _ (sound-at x))))
     (λ c κs. search needs)
     (λ c. search needs)
     (λ c. let s = c .before .before .before in let d = s .before .before in let x = d .before in

@@ -7,16 +7,16 @@ use borrow.Author.Needs.{needs}
 use Rattle.form.proofs.fcb.kept_mixed.Statement.{statement}
 use Rattle.form.proofs.fcb.kept_mixed.Tie as tie
 
-fold-requires : tie.Need-fold-requires
-fold-requires c κs = simp (c .front .ensures, length-take) (search needs)
+lay-out-requires : tie.Need-lay-out-requires
+lay-out-requires c κs = simp (c .front .ensures, length-take) (search needs)
 
 returns : tie.Need-returns
 unfolding formsInRange every
 returns c =
     let z = c .before .before in
     let n = z .before .wide .ensures .0 in
-    (simp (z .zero-from .ensures, n, and-true), rw (c .fold .ensures, c .before .front .ensures, n))
+    (simp (z .zero-from .ensures, n, and-true), rw (c .lay-out .ensures, c .before .front .ensures, n))
 
 pub kept-mixed-spec : {M : Type 1} → statement M
 kept-mixed-spec =
-    tie.close (tie.spec (λ c κs. search needs) (λ c κs. search needs) (λ c κs. search needs) fold-requires returns)
+    tie.close (tie.spec (λ c κs. search needs) (λ c κs. search needs) (λ c κs. search needs) lay-out-requires returns)

@@ -1,16 +1,53 @@
--- `lay_out` may leave out the pass where `is_uniform` says so.
-use mathlib.Core.Path.{sym, _∙_}
+-- What the pass has found, joined with what is left, is the layout of all.
+use mathlib.Core.Path.{_≡_, sym, ap, _∙_}
+use Prim.Native.Nat.{suc, _*_, _≤_, _-_}
+use native.Mathlib.Numerals.{add-one}
 use borrow.Author.Needs.{needs}
-use Rattle.form.proofs.Uniform.{room-uniform}
+use lib.ListN.{length, getD, drop, drop-of-length-le}
+use lib.Seq.{drop-cons}
+use Rattle.form.specs.Form.{layoutOf}
+use Rattle.form.specs.Pass.{start}
+use Rattle.form.proofs.LayoutLaws.{joined, joined-start, joined-step, joined-end}
 use Rattle.form.proofs.fcb.lay_out.Statement.{statement}
 use Rattle.form.proofs.fcb.lay_out.Tie as tie
 
-lay-out-uniform-requires : tie.Need-lay-out-uniform-requires
-lay-out-uniform-requires c κs =
-    let e = sym (c .before .is-uniform .ensures) ∙ c .if1 .taken in
-    (room-uniform _ _ e, (search needs, e))
+abbrev Inv-loop : tie.InvT-loop
+Inv-loop form fcb last s₀ i₀ s i =
+    (i ≤ length fcb) × ((s .units ≤ 4 * i) × ((s .top ≤ i) × ((s .lines ≤ i) × (joined form s (drop i fcb) ≡ layoutOf form fcb))))
+
+abbrev μ-loop : tie.MeasureT-loop
+μ-loop form fcb last s₀ i₀ s i = length fcb - i
+
+loop-holds : tie.Need-loop-holds Inv-loop μ-loop
+unfolding start
+loop-holds c = (search needs, (search needs, (search needs, (search needs, joined-start _ _))))
+
+loop-again : tie.Need-loop-again Inv-loop μ-loop
+loop-again c =
+    let a = c .before .before .before .before .before .before .args in
+    let l = c .before .before .before .loop in
+    let d = drop-cons (a .fcb .now) (l .i) 0 (search needs) in
+    let e = joined-step (a .form) (l .s) (getD (a .fcb .now) (l .i) 0) (drop (suc (l .i)) (a .fcb .now)) in
+    (search needs, (search needs, (search needs, (search needs, rw add-one (cc (d, e))))))
+
+returns : tie.Need-returns Inv-loop μ-loop
+returns c =
+    let a = c .before .before .before .before .before .before .before .args in
+    let l = c .before .before .before .before .loop in
+    let none = drop-of-length-le (a .fcb .now) {i = l .i} (search needs) in
+    sym (joined-end (a .form) (l .s)) ∙ ap (joined (a .form) (l .s)) (sym none) ∙ l .inv .1 .1 .1 .1
 
 pub lay-out-spec : {M : Type 1} → statement M
 lay-out-spec =
     tie.close
-    (tie.spec (λ c κs. search needs) lay-out-uniform-requires (λ c. search needs) (λ c κs. search needs) (λ c. search needs))
+    (tie.spec
+    Inv-loop
+    μ-loop
+    (λ c κs. search needs)
+    loop-holds
+    (λ c. search needs)
+    (λ c κs. search needs)
+    (λ c. search needs)
+    (λ c. search needs)
+    loop-again
+    returns)
