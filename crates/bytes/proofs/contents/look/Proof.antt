@@ -21,8 +21,7 @@ returns c =
 
 returns-2 : tie.Need-returns-2
 returns-2 c =
-    let s = c .before .before in
-    (
+    let s = c .before .before in (
       λ p t z. rw (sound-parts, z, flags (s .before), sym (s .look-at-state .ensures .0) ∙ not-true _ (c .if2 .taken)),
       λ e. absurd (false≢true e),
     )
@@ -30,8 +29,7 @@ returns-2 c =
 returns-3 : tie.Need-returns-3
 returns-3 c =
     let e = c .before .before in
-    let s = e .before .before in
-    (
+    let s = e .before .before in (
       λ p t z. rw (sound-parts, z, flags (s .before), sym (s .look-at-state .ensures .0) ∙ sound e) (c .legends-ok .ensures),
       λ h. s .look-at-state .ensures .1 (sound e),
     )
