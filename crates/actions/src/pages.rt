@@ -7,15 +7,15 @@ use numbers::Answer;
 use numbers::Refusal;
 ghost use mathlib.Core.Path.{_≡_};
 ghost use mathlib.Core.Bool.{true};
-ghost use mathlib.Core.List.{List, []};
+ghost use mathlib.Core.List.{List};
 ghost use Prim.Native.Nat.{ℕ, _*_, _≤_};
 ghost use lib.ListN.{length};
 ghost use Rattle.form.specs.Form.{formOk};
 ghost use Rattle.line.specs.Line.{lineBytes};
 ghost use Rattle.legends.specs.Legends.{legendsOk};
-ghost use Rattle.calls.specs.Calls.{compose, release, doCompose, doRelease, outcomeOf, step};
+ghost use Rattle.calls.specs.Calls.{doCompose, doRelease, outcomeOf};
 ghost use Rattle.calls.specs.Core.{storesOf};
-ghost use Rattle.actions.specs.Whole.{coreOf, worldOf, outcome, Ready, Did};
+ghost use Rattle.actions.specs.Whole.{coreOf, outcome, Ready, Did};
 
 impl Printer {
     // The copy's number and mark, and its cells over the front of the output.

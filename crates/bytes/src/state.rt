@@ -29,7 +29,7 @@ fn flags_ok(s: &[u8]) -> bool
 }
 
 // Whether bytes stand for a printer.
-pub fn is_readable(s: &[u8]) -> bool
+pub(crate) fn is_readable(s: &[u8]) -> bool
     ensures { λ r. ⌜ r ≡ readable (now (s .entry)) ⌝ }
 {
     if s.len() != STATE_BYTES {
@@ -39,7 +39,7 @@ pub fn is_readable(s: &[u8]) -> bool
 }
 
 // A number of two bytes, high byte first.
-pub fn pair(high: u8, low: u8) -> u16
+pub(crate) fn pair(high: u8, low: u8) -> u16
     ensures { λ r. ⌜ r ≡ high * 256 + low ⌝ }
 {
     (high as u16) * 256 + (low as u16)

@@ -8,14 +8,13 @@ use native.Mathlib.Nat.{add-zero, add-assoc, div-zero}
 use native.Mathlib.Numerals.{add-one}
 use native.Mathlib.Omega.{arith}
 use lib.Dec.{eqb, leb, ltb}
-use lib.ListN.{length, getD, take, drop, length-append, length-take, length-drop, take-append-drop}
+use lib.ListN.{length, getD, take, drop, length-drop, take-append-drop}
 use lib.Seq.{drop-drop, drop-cons, length-take-le, getD-take}
 use borrow.Author.Tests.{eqb-true, eqb-false, ltb-true, ltb-false, leb-true, eq-eqb, ne-eqb, lt-ltb, le-ltb, le-leb, lt-leb, not-true, not-false}
 use Rattle.seq.specs.Words.{any, every}
 use Rattle.seq.proofs.Laws.{and-left, and-right, or-left, or-right}
 use Rattle.seq.proofs.Loops.{any-append, any-split, any-not-all}
-use Rattle.form.specs.declared.Layout.{Layout}
-use Rattle.form.specs.Form.{upper, unitsOf, units, halfInch, runs, runsFrom, unitsTotal, between, linesWhere, printable, edges, badChannel, otherUpper, oddRun, layoutOf, formsInRange, hasChannel}
+use Rattle.form.specs.Form.{upper, unitsOf, units, halfInch, runs, runsFrom, unitsTotal, between, linesWhere, printable, edges, oddRun, layoutOf, formsInRange, hasChannel}
 use Rattle.form.specs.Pass.{astray, uniform, loose}
 use Rattle.form.proofs.FormLaws.{odd, units-has}
 

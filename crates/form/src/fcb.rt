@@ -88,7 +88,7 @@ fn less(a: u16, b: u16) -> u16
 }
 
 // One pass over an FCB.
-pub fn lay_out(form: u16, fcb: &[u8]) -> Layout
+fn lay_out(form: u16, fcb: &[u8]) -> Layout
     requires { ⌜ length (now fcb) ≤ 8192 ⌝ }
     ensures { λ r. ⌜ r ≡ layoutOf form (now (fcb .entry)) ⌝ }
 {

@@ -61,7 +61,7 @@ pub fn decode(byte: u8) -> Command
 }
 
 // No-Op and Sense.
-pub fn is_quiet(command: Command) -> bool
+pub(crate) fn is_quiet(command: Command) -> bool
     ensures { λ r. ⌜ r ≡ traitsOf command .quiet ⌝ }
 {
     match command {
@@ -82,7 +82,7 @@ pub fn is_quiet(command: Command) -> bool
 }
 
 // Sense.
-pub fn replies(command: Command) -> bool
+pub(crate) fn replies(command: Command) -> bool
     ensures { λ r. ⌜ r ≡ traitsOf command .replies ⌝ }
 {
     match command {
@@ -102,7 +102,7 @@ pub fn replies(command: Command) -> bool
     }
 }
 
-pub fn is_unlisted(command: Command) -> bool
+pub(crate) fn is_unlisted(command: Command) -> bool
     ensures { λ r. ⌜ r ≡ isUnlisted command ⌝ }
 {
     match command {
@@ -114,7 +114,7 @@ pub fn is_unlisted(command: Command) -> bool
     }
 }
 
-pub fn is_load(command: Command) -> bool
+pub(crate) fn is_load(command: Command) -> bool
     ensures { λ r. ⌜ r ≡ isLoad command ⌝ }
 {
     match command {

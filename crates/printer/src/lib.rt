@@ -4,7 +4,6 @@ use actions::Printer;
 use actions::Step;
 use calls::Command;
 use form::Layout;
-use numbers::Answer;
 use numbers::Refusal;
 ghost use mathlib.Core.Path.{_≡_};
 ghost use mathlib.Core.Bool.{true};

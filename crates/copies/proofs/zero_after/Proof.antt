@@ -4,7 +4,7 @@ use mathlib.Core.Bool.{not, _||_, or-false, or-assoc}
 use Prim.Native.Nat.{_≤_, _-_}
 use native.Mathlib.Nat.{sub-zero}
 use lib.Dec.{eqb}
-use lib.ListN.{length, drop, drop-of-length-le}
+use lib.ListN.{drop, drop-of-length-le}
 use borrow.Author.Needs.{needs}
 use Rattle.seq.specs.Words.{any}
 use Rattle.seq.proofs.Loops.{any-not-all}

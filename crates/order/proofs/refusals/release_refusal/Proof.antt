@@ -3,7 +3,6 @@ use mathlib.Core.Path.{sym, ap}
 use mathlib.Core.Bool.{not}
 use Rattle.seq.proofs.Laws.{clear, hit, pass, first-only}
 use Rattle.numbers.specs.declared.Refusal.the-variants.{NoPage, BadStore}
-use borrow.Author.Needs.{needs}
 use Rattle.order.proofs.refusals.release_refusal.Statement.{statement}
 use Rattle.order.proofs.refusals.release_refusal.Tie as tie
 
