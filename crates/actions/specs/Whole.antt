@@ -6,7 +6,7 @@ use mathlib.Core.List.{List}
 use Rattle.form.specs.declared.Layout.{Layout}
 use Rattle.form.specs.Form.{formOk, fcbSize}
 use Rattle.line.specs.Line.{pageLines}
-use Rattle.calls.specs.declared.State.{State}
+use Rattle.calls.specs.Core.{State}
 use Rattle.calls.specs.Core.{Stores, Core, World, laidOut}
 use Rattle.calls.specs.Effects.{Effect}
 use Rattle.calls.specs.Calls.{Outcome, outcomeOf}

@@ -8,7 +8,7 @@ use Rattle.form.specs.Form.{formOk, formsInRange}
 use Rattle.line.specs.Line.{slotsInRange}
 use Rattle.copies.specs.Copies.{copiesInRange}
 use Rattle.legends.specs.Legends.{legendsOk}
-use Rattle.calls.specs.declared.State.{State}
+use Rattle.calls.specs.Core.{State}
 use Rattle.calls.specs.Core.{Stores, sizesOk, P}
 use Rattle.calls.specs.Contents.{lineOk, rangesOk, dueOk, markOk, formsOk, sequenceOk, coreOk}
 use Rattle.bytes.specs.State.{printerOf, readable}

@@ -13,7 +13,7 @@ use borrow.Author.Tests.{eqb-true, eq-eqb, leb-true}
 use Rattle.seq.specs.Words.{all, listed, from}
 use Rattle.seq.proofs.Laws.{every-at, every-of, finally, also, listed-all, spelled, four}
 use Rattle.numbers.specs.declared.Sense.{Sense}
-use Rattle.calls.specs.declared.State.{State}
+use Rattle.calls.specs.Core.{State}
 use Rattle.actions.specs.declared.Printer.{Printer}
 use Rattle.bytes.specs.State.{stateSize, bytesOf, printerOf, readable, flagPlaces, byteAt, flagAt, withSense}
 

@@ -1,4 +1,4 @@
--- Document 01, "Calls": what a call is handed. The structs of src/ are the state; the large parts are lent.
+-- Document 01, "Calls": what a call is handed.
 use Prim.Native.Nat.{ℕ}
 use mathlib.Core.Bool.{Bool, not, _||_}
 use mathlib.Core.List.{List, [], _∷_}
@@ -6,15 +6,14 @@ use lib.ListN.{length}
 use lib.Dec.{eqb}
 use Rattle.seq.specs.Words.{every}
 use Rattle.numbers.specs.declared.Sense.{Sense}
-use Rattle.form.specs.declared.Forms.{Forms}
 use Rattle.form.specs.declared.Layout.{Layout}
-use Rattle.form.specs.Form.{fcbNow, printable, layoutOf}
+use Rattle.form.specs.Form.{Forms, fcbNow, printable, layoutOf}
 use Rattle.line.specs.declared.Slots.{Slots}
 use Rattle.line.specs.Line.{pageSize, tableSize}
-use Rattle.copies.specs.declared.Copies.{Copies}
+use Rattle.copies.specs.Copies.{Copies}
 use Rattle.legends.specs.Legends.{legendSize}
+use Rattle.calls.specs.declared.Fixed.{Fixed}
 use Rattle.calls.specs.declared.Sheet.{Sheet}
-use Rattle.calls.specs.declared.State.{State}
 
 -- Calls: the lent stores, and their sizes.
 pub record Stores : Type 0 where
@@ -27,6 +26,15 @@ storesOf page legends tables = record { page = page; legends = legends; tables =
 
 unfoldable pub sizesOk : Stores → Bool
 sizesOk m = every (eqb (length (m .page)) pageSize ∷ eqb (length (m .legends)) legendSize ∷ eqb (length (m .tables)) tableSize ∷ [])
+
+-- All that a printer holds but its sense.
+pub record State : Type 0 where
+  pub fixed : Fixed
+  pub blocked : Bool
+  pub forms : Forms
+  pub slots : Slots
+  pub copies : Copies
+  pub sheet : Sheet
 
 -- Calls: all but the sense, and all. No call but Sense reads the sense, so that what a call does is a function of the core.
 pub record Core : Type 0 where

@@ -21,7 +21,7 @@ use Rattle.line.specs.Line.{slotSize, putSlot, serving, translated, lineCells, 
 use Rattle.copies.specs.Copies.{tableCheck, sequenceCheck, numberCheck, withSequence, withReference}
 use Rattle.legends.specs.Legends.{legendCheck, storedLegends, legendText}
 use Rattle.calls.specs.declared.Sheet.{Sheet}
-use Rattle.calls.specs.declared.State.{State}
+use Rattle.calls.specs.Core.{State}
 use Rattle.calls.specs.declared.Load.{Load}
 use Rattle.calls.specs.declared.Load.the-variants.{Fcb, TranslateTable, CopyModification, OverlaySequence, CopyNumber}
 use Rattle.calls.specs.declared.Control.{Control}

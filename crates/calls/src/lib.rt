@@ -1,7 +1,4 @@
 // Document 01, "Calls", "Commands", "Reset and sense": what a printer holds, and what it is told to do.
-use copies::Copies;
-use form::Forms;
-use line::Slots;
 use movement::Motion;
 ghost use mathlib.Core.Path.{_≡_};
 ghost use Rattle.calls.specs.Core.{storesOf, sizesOk, started};
@@ -30,16 +27,6 @@ pub struct Sheet {
     pub written: bool,
     pub waiting: bool,
     pub due: bool,
-}
-
-// All that a printer holds but its sense.
-pub struct State {
-    pub fixed: Fixed,
-    pub blocked: bool,
-    pub forms: Forms,
-    pub slots: Slots,
-    pub copies: Copies,
-    pub sheet: Sheet,
 }
 
 // A command byte, decoded. Write is write and space or skip, Move the immediate form of both.

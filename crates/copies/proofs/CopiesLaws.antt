@@ -14,7 +14,7 @@ use Rattle.seq.proofs.Laws.{and-left, and-right, or-right, passed}
 use Rattle.numbers.specs.declared.Cause.the-variants.{SequencePairs, SequenceCounts, NumberRecord}
 use Rattle.numbers.specs.declared.Checked.the-variants.{Sound, Faulty}
 use Rattle.numbers.proofs.Laws.{faulty}
-use Rattle.copies.specs.declared.Copies.{Copies}
+use Rattle.copies.specs.Copies.{Copies}
 use Rattle.copies.specs.Copies.{tableCheck, pairsOf, copiesOf, wholePairs, badPair, sequenceCheck, markIn, numberCheck, copyNumber}
 
 -- The pairs from place i on: the one there before those after it, and none where fewer than two bytes are left.

@@ -2,19 +2,12 @@
 use numbers::Cause;
 use numbers::Checked;
 ghost use mathlib.Core.Path.{_≡_};
-ghost use Prim.Native.Nat.{_≤_};
+ghost use Prim.Native.Nat.{_+_, _-_, _≤_};
 ghost use lib.ListN.{length, take};
 ghost use Rattle.seq.specs.Words.{any, zeroFrom};
 ghost use Rattle.numbers.specs.Numbers.{isSound};
 ghost use Rattle.copies.specs.Copies.{tableCheck, pairsOf, copiesOf, wholePairs, badPair, sequenceCheck, markIn, numberCheck};
-ghost use Rattle.copies.specs.Copies.{pairSize, withSequence, withReference, copyCount, copyNumber, copyMark, copiesInRange};
-
-// The overlay sequence, pairs of copies and mark with 00 after them, its count in bytes, and the copy number reference.
-pub struct Copies {
-    pub pairs: [u8; 16],
-    pub count: u8,
-    pub reference: u8,
-}
+ghost use Rattle.copies.specs.Copies.{pairSize, copiesInRange};
 
 pub fn table_check(sent: &[u8]) -> Checked
     ensures { λ r. ⌜ r ≡ tableCheck (now (sent .entry)) ⌝ }
@@ -109,31 +102,6 @@ pub fn number_check(sent: &[u8]) -> Checked
     Checked::Sound
 }
 
-pub fn load_sequence(copies: Copies, sent: &[u8]) -> Copies
-    requires { ⌜ length (now sent) ≤ 16 ⌝ }
-    ensures { λ r. ⌜ r ≡ withSequence copies (now (sent .entry)) ⌝ }
-{
-    let n = sent.len();
-    let mut pairs = [0u8; 16];
-    seq::copy_all(&mut pairs[0..n], sent);
-    Copies {
-        pairs: pairs,
-        count: n as u8,
-        reference: copies.reference,
-    }
-}
-
-pub fn load_number(copies: Copies, n: u8) -> Copies
-    ensures { λ r. ⌜ r ≡ withReference copies n ⌝ }
-{
-    let pairs = copies.pairs;
-    Copies {
-        pairs: pairs,
-        count: copies.count,
-        reference: n,
-    }
-}
-
 // All 16 whatever the count is, and the place as a byte beside the index: so the loop has no branch and a known end.
 fn zero_after(count: u8, pairs: &[u8]) -> bool
     requires { ⌜ length (now pairs) ≡ 16 ⌝ }
@@ -165,24 +133,24 @@ pub fn sequence_ok(pairs: &[u8], count: u8) -> bool
     sequence_check(seq::front(pairs, seq::wide(count))).is_sound()
 }
 
-pub fn copy_count(copies: Copies) -> u16
-    ensures { λ r. ⌜ r ≡ copyCount copies ⌝ }
+// The copies of a page by the sequence kept: how many, and the number and mark of copy k.
+pub fn copy_count(pairs: &[u8], count: u8) -> u16
+    requires { ⌜ length (now pairs) ≡ 16 ⌝ }
+    ensures { λ r. ⌜ r ≡ copiesOf (take count (now (pairs .entry))) ⌝ }
 {
-    let pairs = copies.pairs;
-    total_copies(seq::front(&pairs, copies.count as usize))
+    total_copies(seq::front(pairs, seq::wide(count)))
 }
 
-pub fn copy_number(copies: Copies, k: u16) -> u16
+pub fn copy_number(reference: u8, k: u16) -> u16
     requires { ⌜ 1 ≤ k ⌝ }
     requires { ⌜ k ≤ 255 ⌝ }
-    ensures { λ r. ⌜ r ≡ copyNumber copies k ⌝ }
+    ensures { λ r. ⌜ r ≡ reference + k - 1 ⌝ }
 {
-    count_of(copies.reference) + k - 1
+    count_of(reference) + k - 1
 }
 
-pub fn copy_mark(copies: Copies, k: u16) -> u8
-    ensures { λ r. ⌜ r ≡ copyMark copies k ⌝ }
+pub fn copy_mark(pairs: &[u8], count: u8, k: u16) -> u8
+    ensures { λ r. ⌜ r ≡ markIn k (pairsOf (take count (now (pairs .entry)))) ⌝ }
 {
-    let pairs = copies.pairs;
-    mark_in(k, seq::front(&pairs, copies.count as usize))
+    mark_in(k, seq::front(pairs, seq::wide(count)))
 }

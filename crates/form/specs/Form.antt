@@ -8,7 +8,6 @@ use Rattle.seq.specs.Words.{any, all, when, firstOr, every, listed, total, zero
 use Rattle.numbers.specs.declared.Cause.the-variants.{FcbChannel, FcbSpacing, FcbSum, FcbEdge}
 use Rattle.numbers.specs.declared.Checked.{Checked}
 use Rattle.numbers.specs.declared.Checked.the-variants.{Sound, Faulty}
-use Rattle.form.specs.declared.Forms.{Forms}
 use Rattle.form.specs.declared.Layout.{Layout}
 
 -- The form lengths in 24ths of an inch, which are our units: common-use, then ISO.
@@ -132,6 +131,10 @@ startFcb len = zeros 3 ++ 1 ∷ zeros (len / 4 - 4)
 -- Forms control as the printer keeps it: a record of at most 144 bytes, and 00 after it.
 abbrev pub fcbSize : ℕ
 fcbSize = 144
+
+pub record Forms : Type 0 where
+  pub fcb : List ℕ
+  pub count : ℕ
 
 unfoldable pub formsOf : List ℕ → Forms
 formsOf r = record { fcb = padded fcbSize r; count = length r }

@@ -1,5 +1,4 @@
 // Document 01, "Form and forms control": what an FCB says, whether its load takes it, and forms control as the printer keeps it.
-use crate::Forms;
 use crate::Kept;
 use crate::Layout;
 use numbers::Cause;
@@ -12,7 +11,7 @@ ghost use lib.Dec.{eqb, ltb};
 ghost use lib.ListN.{length, take};
 ghost use Rattle.seq.specs.Words.{any, listed};
 ghost use Rattle.form.specs.Form.{formLengths, pitchesListed, formOk, unitsOf, halfInch, hasChannel};
-ghost use Rattle.form.specs.Form.{layoutOf, layoutCheck, fcbCheck, formsOf, formsInRange};
+ghost use Rattle.form.specs.Form.{layoutOf, layoutCheck, fcbCheck, formsInRange};
 ghost use Rattle.form.specs.Pass.{stepOf, astray, uniform, loose};
 
 const HALF_INCH: u16 = 12;
@@ -265,19 +264,6 @@ pub fn kept(form: u16, fcb: &[u8], count: u8) -> Kept
     Kept {
         range: true,
         layout: layout,
-    }
-}
-
-pub fn load_forms(sent: &[u8]) -> Forms
-    requires { ⌜ length (now sent) ≤ 144 ⌝ }
-    ensures { λ r. ⌜ r ≡ formsOf (now (sent .entry)) ⌝ }
-{
-    let mut fcb = [0u8; 144];
-    let n = sent.len();
-    seq::copy_all(&mut fcb[0..n], sent);
-    Forms {
-        fcb: fcb,
-        count: n as u8,
     }
 }
 

@@ -1,12 +1,6 @@
 // Document 01, "Form and forms control".
 pub mod fcb;
 
-// Forms control: the FCB's bytes, one for each line, and how many there are; 00 after them.
-pub struct Forms {
-    pub fcb: [u8; 144],
-    pub count: u8,
-}
-
 // What one pass over an FCB finds: whether a channel or a spacing is bad, the units in all, whether an edge half inch has a channel,
 // the lines that start in the first half inch, and the printable ones.
 pub struct Layout {

@@ -1,5 +1,4 @@
 // Document 01, "Movement": spacing, skipping, and either on a part of an FCB.
-use form::Forms;
 ghost use mathlib.Core.Path.{_≡_};
 ghost use mathlib.Core.Bool.{cond};
 ghost use Prim.Native.Nat.{_+_, _-_, _≤_};
@@ -162,14 +161,14 @@ fn move_lines(lines: &[u8], line: u8, motion: Motion) -> Moved
 }
 
 // The printable lines are a part of the FCB: `lines` of them after the first `top`.
-pub fn move_form(forms: Forms, top: u16, lines: u16, line: u8, motion: Motion) -> Moved
+pub fn move_form(fcb: &[u8], top: u16, lines: u16, line: u8, motion: Motion) -> Moved
+    requires { ⌜ length (now fcb) ≡ 144 ⌝ }
     requires { ⌜ top + lines ≤ 144 ⌝ }
     requires { ⌜ lines ≤ 132 ⌝ }
     requires { ⌜ 1 ≤ line ⌝ }
     requires { ⌜ line ≤ lines ⌝ }
-    ensures { λ r. ⌜ r ≡ moved (take lines (drop top (forms .fcb))) line motion ⌝ }
+    ensures { λ r. ⌜ r ≡ moved (take lines (drop top (now (fcb .entry)))) line motion ⌝ }
 {
-    let fcb = forms.fcb;
     let at = top as usize;
     let end = at + lines as usize;
     move_lines(&fcb[at..end], line, motion)

@@ -4,7 +4,7 @@ ghost use mathlib.Core.Bool.{cond, not};
 ghost use Prim.Native.Nat.{_≤_, min};
 ghost use lib.Dec.{eqb};
 ghost use lib.ListN.{length, take, replicate};
-ghost use Rattle.seq.specs.Words.{any, all, bit, zeroFrom};
+ghost use Rattle.seq.specs.Words.{any, all, bit, padded, zeroFrom};
 
 // A byte as an index.
 pub fn wide(b: u8) -> usize
@@ -68,6 +68,16 @@ pub fn fill(s: &mut [u8], v: u8)
         s[i] = v;
         i += 1;
     }
+}
+
+// The bytes of `from` over the front, and 00 after them.
+pub fn lay_padded(to: &mut [u8], from: &[u8])
+    requires { ⌜ length (now from) ≤ length (now to) ⌝ }
+    ensures { λ _. ⌜ now (to .exit) ≡ padded (length (now (to .entry))) (now (from .entry)) ⌝ }
+{
+    let n = from.len();
+    fill(to, 0);
+    copy_all(&mut to[0..n], from);
 }
 
 fn any_set(s: &[u8]) -> bool

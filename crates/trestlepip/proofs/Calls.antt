@@ -10,7 +10,7 @@ use Rattle.seq.proofs.Laws.{and-left, and-right}
 use Rattle.numbers.specs.declared.Sense.{Sense}
 use Rattle.numbers.specs.declared.Refusal.the-variants.{Accepted, NoPage, BadIndex, TooShort, BadStore}
 use Rattle.numbers.specs.Numbers.{rowOf, isAccepted, only, senseAfter}
-use Rattle.calls.specs.declared.State.{State}
+use Rattle.calls.specs.Core.{State}
 use Rattle.calls.specs.Core.{Stores, World, sizesOk}
 use Rattle.calls.specs.Contents.{coreOk}
 use Rattle.calls.specs.Effects.{Effect, refused}

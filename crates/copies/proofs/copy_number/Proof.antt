@@ -1,11 +1,9 @@
 -- A reference and a copy are at most 255, so their sum does not wrap.
-use Rattle.copies.specs.Copies.{copyNumber}
 use borrow.Author.Needs.{needs}
 use Rattle.copies.proofs.copy_number.Statement.{statement}
 use Rattle.copies.proofs.copy_number.Tie as tie
 
 returns : tie.Need-returns
-unfolding copyNumber
 returns c = search needs
 
 pub copy-number-spec : {M : Type 1} → statement M
