@@ -2,7 +2,7 @@
 use crate::commands;
 use calls::Command;
 use calls::Load;
-use calls::State;
+use calls::Sheet;
 use form::Layout;
 use numbers::Checked;
 use numbers::Refusal;
@@ -10,10 +10,11 @@ ghost use mathlib.Core.Path.{_≡_};
 ghost use mathlib.Core.Bool.{true, false};
 ghost use mathlib.Core.List.{[], _∷_};
 ghost use Prim.Native.Nat.{_≤_};
-ghost use lib.ListN.{length};
+ghost use lib.ListN.{length, take};
 ghost use Rattle.seq.specs.Words.{firstOr};
 ghost use Rattle.numbers.specs.declared.Refusal.the-variants.{Accepted};
-ghost use Rattle.calls.specs.Core.{Stores, storesOf, laidOut};
+ghost use Rattle.copies.specs.Copies.{sequenceNow};
+ghost use Rattle.calls.specs.Core.{Core, storesOf, laidOut};
 ghost use Rattle.calls.specs.Contents.{coreOk};
 ghost use Rattle.calls.specs.Effects.{loadCheck};
 ghost use Rattle.calls.specs.Calls.{badRecord, checkOf, commandTests, composeTests, releaseTests};
@@ -59,16 +60,22 @@ fn check_of(form: u16, command: Command, sent: &[u8]) -> Checked
 }
 
 // 1, 4, 2, 5, 3, 8 on contents that a printer can have, so that 9 is past; 11 is in the order too, but no command completes two pages.
-pub fn command_refusal(state: State, command: Command, sent: &[u8], reply: &[u8]) -> Refusal
-    ensures { λ r. ⌜ ((m : Stores) → coreOk (record { state = state; stores = m }) ≡ true
-        → r ≡ firstOr Accepted (commandTests (record { state = state; stores = m }) command (now (sent .entry)) (now (reply .entry)))) ⌝ }
+pub fn command_refusal(
+    length: u16,
+    sheet: Sheet,
+    command: Command,
+    sent: &[u8],
+    reply: &[u8],
+) -> Refusal
+    ensures { λ r. ⌜ ((k : Core) → k .state .fixed .length ≡ length → k .state .sheet ≡ sheet → coreOk k ≡ true
+        → r ≡ firstOr Accepted (commandTests k command (now (sent .entry)) (now (reply .entry)))) ⌝ }
 {
     if commands::is_unlisted(command) {
         return Refusal::NotListed;
     }
-    let waits = state.sheet.waiting & !commands::is_quiet(command);
+    let waits = sheet.waiting & !commands::is_quiet(command);
     let bad = bad_record(command, sent);
-    let begun = commands::is_load(command) & calls::is_started(state.sheet);
+    let begun = commands::is_load(command) & calls::is_started(sheet);
     if waits {
         return Refusal::PageWaiting;
     }
@@ -78,7 +85,7 @@ pub fn command_refusal(state: State, command: Command, sent: &[u8], reply: &[u8]
     if begun {
         return Refusal::PageStarted;
     }
-    let found = check_of(state.fixed.length, command, sent);
+    let found = check_of(length, command, sent);
     match found {
         Checked::Sound => {}
         Checked::Faulty(cause) => {
@@ -92,16 +99,23 @@ pub fn command_refusal(state: State, command: Command, sent: &[u8], reply: &[u8]
 }
 
 // 6, 7, 8 likewise; the page's lines are those of the form as it is laid out.
-pub fn compose_refusal(state: State, form: Layout, copy: u32, out: &[u8]) -> Refusal
-    requires { ⌜ form ≡ laidOut state ⌝ }
-    ensures { λ r. ⌜ ((m : Stores) → coreOk (record { state = state; stores = m }) ≡ true
-        → r ≡ firstOr Accepted (composeTests (record { state = state; stores = m }) copy (now (out .entry)))) ⌝ }
+pub fn compose_refusal(
+    waiting: bool,
+    pairs: &[u8],
+    count: u8,
+    form: Layout,
+    copy: u32,
+    out: &[u8],
+) -> Refusal
+    requires { ⌜ length (now pairs) ≡ 16 ⌝ }
+    ensures { λ r. ⌜ ((k : Core) → k .state .sheet .waiting ≡ waiting → sequenceNow (k .state .copies) ≡ take count (now (pairs .entry))
+        → form ≡ laidOut (k .state) → coreOk k ≡ true → r ≡ firstOr Accepted (composeTests k copy (now (out .entry)))) ⌝ }
 {
-    if !state.sheet.waiting {
+    if !waiting {
         return Refusal::NoPage;
     }
-    let count = copies::copy_count(state.copies);
-    if (copy == 0) | ((count as u32) < copy) {
+    let copies = copies::copy_count(pairs, count);
+    if (copy == 0) | ((copies as u32) < copy) {
         return Refusal::BadIndex;
     }
     if out.len() < calls::LINE_CELLS * (form.lines as usize) {
@@ -111,11 +125,10 @@ pub fn compose_refusal(state: State, form: Layout, copy: u32, out: &[u8]) -> Ref
 }
 
 // 6 likewise.
-pub fn release_refusal(state: State) -> Refusal
-    ensures { λ r. ⌜ ((m : Stores) → coreOk (record { state = state; stores = m }) ≡ true
-        → r ≡ firstOr Accepted (releaseTests (record { state = state; stores = m }))) ⌝ }
+pub fn release_refusal(waiting: bool) -> Refusal
+    ensures { λ r. ⌜ ((k : Core) → k .state .sheet .waiting ≡ waiting → coreOk k ≡ true → r ≡ firstOr Accepted (releaseTests k)) ⌝ }
 {
-    if !state.sheet.waiting {
+    if !waiting {
         return Refusal::NoPage;
     }
     Refusal::Accepted
