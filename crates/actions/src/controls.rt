@@ -2,7 +2,6 @@
 use crate::Printer;
 use crate::Step;
 use calls::Control;
-use calls::State;
 use line::Causes;
 use numbers::Answer;
 use numbers::Refusal;
@@ -16,57 +15,58 @@ ghost use lib.ListN.{length};
 ghost use Rattle.form.specs.Form.{formOk};
 ghost use Rattle.line.specs.Line.{noCauses};
 ghost use Rattle.calls.specs.declared.Control.the-variants.{NoOp, SenseIo, Initialize, Clear, Select};
-ghost use Rattle.calls.specs.Core.{Stores, withState, withBlocked, storesOf};
+ghost use Rattle.calls.specs.Core.{withState, withBlocked};
 ghost use Rattle.calls.specs.Commands.{controlTraits};
 ghost use Rattle.calls.specs.Reset.{reset, senseSize, byte3, senseBytes};
 ghost use Rattle.calls.specs.Effects.{done, standing, doControl};
 ghost use Rattle.calls.specs.Calls.{outcomeOf};
-ghost use Rattle.actions.specs.Whole.{coreOf, outcome, Did};
-
-fn byte3(state: State) -> u8
-    ensures { λ r. ⌜ r ≡ byte3 state ⌝ }
-{
-    let sheet = state.sheet;
-    let idle = !calls::is_started(sheet) & !sheet.waiting;
-    0x80 + seq::flag(idle, 0x40) + seq::flag(state.blocked, 0x20)
-}
-
-fn sense_bytes(state: State, sense: Sense) -> [u8; 24]
-    ensures { λ r. ⌜ r ≡ senseBytes state sense ⌝ }
-{
-    let b3 = byte3(state);
-    [
-        sense.b0,
-        sense.b1,
-        sense.b2,
-        b3,
-        0,
-        0,
-        0,
-        0,
-        0,
-        0,
-        0,
-        0,
-        0,
-        0,
-        0,
-        0,
-        0,
-        0,
-        0,
-        0,
-        0,
-        0,
-        sense.b22,
-        sense.b23,
-    ]
-}
+ghost use Rattle.actions.specs.Whole.{Lent, lentOf, stateOf, coreOf, outcome, Did};
 
 impl Printer {
+    fn byte3(self) -> u8
+        ensures { λ r. ⌜ ((k : List ℕ) → r ≡ byte3 (stateOf self k)) ⌝ }
+    {
+        let sheet = self.sheet;
+        let idle = !calls::is_started(sheet) & !sheet.waiting;
+        0x80 + seq::flag(idle, 0x40) + seq::flag(self.blocked, 0x20)
+    }
+
+    fn sense_bytes(self) -> [u8; 24]
+        ensures { λ r. ⌜ ((k : List ℕ) → r ≡ senseBytes (stateOf self k) (self .sense)) ⌝ }
+    {
+        let b3 = self.byte3();
+        let sense = self.sense;
+        [
+            sense.b0,
+            sense.b1,
+            sense.b2,
+            b3,
+            0,
+            0,
+            0,
+            0,
+            0,
+            0,
+            0,
+            0,
+            0,
+            0,
+            0,
+            0,
+            0,
+            0,
+            0,
+            0,
+            0,
+            0,
+            sense.b22,
+            sense.b23,
+        ]
+    }
+
     // Accepted, with status 0C alone and the sense left as it is.
     fn quietly(self) -> Step
-        ensures { λ r. ⌜ ((m : Stores) → Did self m r m (λ k. doControl k NoOp)) ⌝ }
+        ensures { λ r. ⌜ ((l : Lent) → Did self l r l (λ k. doControl k NoOp)) ⌝ }
     {
         Step {
             printer: self,
@@ -84,10 +84,10 @@ impl Printer {
     // Replies the sense, then clears it.
     fn sense_io(mut self, reply: &mut [u8]) -> Step
         requires { ⌜ 24 ≤ length (now reply) ⌝ }
-        ensures { λ r. ⌜ ((m : Stores) → outcome r (now (reply .exit)) m
-            ≡ outcomeOf (self .sense) (now (reply .entry)) (doControl (coreOf self m) SenseIo)) ⌝ }
+        ensures { λ r. ⌜ ((l : Lent) → outcome r (now (reply .exit)) l
+            ≡ outcomeOf (self .sense) (now (reply .entry)) (doControl (coreOf self l) SenseIo)) ⌝ }
     {
-        let bytes = sense_bytes(self.state, self.sense);
+        let bytes = self.sense_bytes();
         seq::copy_all(&mut reply[0..24], &bytes);
         let sense = Sense::CLEAR;
         self.sense = sense;
@@ -95,62 +95,57 @@ impl Printer {
     }
 
     // All but the page and the check switch as Start leaves it.
-    pub(crate) fn reset(mut self, legends: &mut [u8], tables: &mut [u8]) -> Printer
-        requires { ⌜ formOk (self .state .fixed .length) (self .state .fixed .pitches) ≡ true ⌝ }
+    pub(crate) fn reset(self, kept: &mut [u8], legends: &mut [u8], tables: &mut [u8]) -> Printer
+        requires { ⌜ formOk (self .fixed .length) (self .fixed .pitches) ≡ true ⌝ }
+        requires { ⌜ length (now kept) ≡ 160 ⌝ }
         requires { ⌜ length (now legends) ≡ 8192 ⌝ }
         requires { ⌜ length (now tables) ≡ 1024 ⌝ }
-        ensures { λ r. ⌜ ((p : List ℕ) → coreOf r (storesOf p (now (legends .exit)) (now (tables .exit)))
-            ≡ reset (coreOf self (storesOf p (now (legends .entry)) (now (tables .entry))))) ⌝ }
+        ensures { λ r. ⌜ ((p : List ℕ) → coreOf r (lentOf (now (kept .exit)) p (now (legends .exit)) (now (tables .exit)))
+            ≡ reset (coreOf self (lentOf (now (kept .entry)) p (now (legends .entry)) (now (tables .entry))))) ⌝ }
         ensures { λ r. ⌜ r .sense ≡ self .sense ⌝ }
     {
         seq::fill(legends, 0);
         line::tables::start_tables(tables);
-        let before = self.state;
-        let state = Printer::start_state(before.fixed, before.blocked);
-        self.state = state;
-        self
+        Printer::start_state(self.fixed, self.blocked, self.sense, kept)
     }
 
-    fn initialize(self, legends: &mut [u8], tables: &mut [u8]) -> Step
-        requires { ⌜ formOk (self .state .fixed .length) (self .state .fixed .pitches) ≡ true ⌝ }
+    fn initialize(self, kept: &mut [u8], legends: &mut [u8], tables: &mut [u8]) -> Step
+        requires { ⌜ formOk (self .fixed .length) (self .fixed .pitches) ≡ true ⌝ }
+        requires { ⌜ length (now kept) ≡ 160 ⌝ }
         requires { ⌜ length (now legends) ≡ 8192 ⌝ }
         requires { ⌜ length (now tables) ≡ 1024 ⌝ }
-        ensures { λ r. ⌜ ((p : List ℕ) → Did self (storesOf p (now (legends .entry)) (now (tables .entry))) r
-            (storesOf p (now (legends .exit)) (now (tables .exit))) (λ k. doControl k Initialize)) ⌝ }
+        ensures { λ r. ⌜ ((p : List ℕ) → Did self (lentOf (now (kept .entry)) p (now (legends .entry)) (now (tables .entry))) r
+            (lentOf (now (kept .exit)) p (now (legends .exit)) (now (tables .exit))) (λ k. doControl k Initialize)) ⌝ }
     {
-        if calls::is_started(self.state.sheet) {
+        if calls::is_started(self.sheet) {
             return self.complete(true);
         }
-        let fresh = self.reset(legends, tables);
+        let fresh = self.reset(kept, legends, tables);
         fresh.stand(Causes::NONE)
     }
 
     fn clear(self) -> Step
-        ensures { λ r. ⌜ ((m : Stores) → Did self m r m (λ k. doControl k Clear)) ⌝ }
+        ensures { λ r. ⌜ ((l : Lent) → Did self l r l (λ k. doControl k Clear)) ⌝ }
     {
-        if !calls::is_started(self.state.sheet) {
+        if !calls::is_started(self.sheet) {
             return self.stand(Causes::NONE);
         }
         self.complete(false)
     }
 
     fn block(mut self, blocked: bool) -> Step
-        ensures { λ r. ⌜ ((m : Stores) → Did self m r m (λ k. done (withState k (withBlocked (k .state) blocked)) noCauses (standing k))) ⌝ }
+        ensures { λ r. ⌜ ((l : Lent) → Did self l r l (λ k. done (withState k (withBlocked (k .state) blocked)) noCauses (standing k))) ⌝ }
     {
-        let mut state = self.state;
-        state.blocked = blocked;
-        self.state = state;
+        self.blocked = blocked;
         self.stand(Causes::NONE)
     }
 
     fn select(mut self, slot: u8) -> Step
-        ensures { λ r. ⌜ ((m : Stores) → Did self m r m (λ k. doControl k (Select slot))) ⌝ }
+        ensures { λ r. ⌜ ((l : Lent) → Did self l r l (λ k. doControl k (Select slot))) ⌝ }
     {
-        let mut state = self.state;
-        let mut slots = state.slots;
+        let mut slots = self.slots;
         slots.selected = slot;
-        state.slots = slots;
-        self.state = state;
+        self.slots = slots;
         self.stand(Causes::NONE)
     }
 
@@ -158,21 +153,23 @@ impl Printer {
         self,
         control: Control,
         reply: &mut [u8],
+        kept: &mut [u8],
         legends: &mut [u8],
         tables: &mut [u8],
     ) -> Step
-        requires { ⌜ formOk (self .state .fixed .length) (self .state .fixed .pitches) ≡ true ⌝ }
+        requires { ⌜ formOk (self .fixed .length) (self .fixed .pitches) ≡ true ⌝ }
         requires { ⌜ (controlTraits control .replies && ltb (length (now reply)) senseSize) ≡ false ⌝ }
+        requires { ⌜ length (now kept) ≡ 160 ⌝ }
         requires { ⌜ length (now legends) ≡ 8192 ⌝ }
         requires { ⌜ length (now tables) ≡ 1024 ⌝ }
-        ensures { λ r. ⌜ ((p : List ℕ) → outcome r (now (reply .exit)) (storesOf p (now (legends .exit)) (now (tables .exit)))
+        ensures { λ r. ⌜ ((p : List ℕ) → outcome r (now (reply .exit)) (lentOf (now (kept .exit)) p (now (legends .exit)) (now (tables .exit)))
             ≡ outcomeOf (self .sense) (now (reply .entry))
-            (doControl (coreOf self (storesOf p (now (legends .entry)) (now (tables .entry)))) control)) ⌝ }
+            (doControl (coreOf self (lentOf (now (kept .entry)) p (now (legends .entry)) (now (tables .entry)))) control)) ⌝ }
     {
         match control {
             Control::NoOp => self.quietly(),
             Control::SenseIo => self.sense_io(reply),
-            Control::Initialize => self.initialize(legends, tables),
+            Control::Initialize => self.initialize(kept, legends, tables),
             Control::Clear => self.clear(),
             Control::Block => self.block(true),
             Control::Allow => self.block(false),

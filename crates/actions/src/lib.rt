@@ -1,22 +1,26 @@
 // What accepted calls do: the printer by value, with a method for each command and for a copy, a release and a start. What refuses a call comes
 // before, in `order`.
-mod actions;
 mod controls;
 mod loads;
+mod moves;
 mod pages;
 mod starting;
 
 use calls::Fixed;
 use calls::Sheet;
-use calls::State;
-use copies::Copies;
-use form::Forms;
 use line::Slots;
 use numbers::Answer;
 use numbers::Sense;
 
+// All that a printer holds but its two arrays, which stay where they are lent: of these, how many bytes the FCB and the overlay sequence have.
 pub struct Printer {
-    pub state: State,
+    pub fixed: Fixed,
+    pub blocked: bool,
+    pub fcb: u8,
+    pub slots: Slots,
+    pub pairs: u8,
+    pub reference: u8,
+    pub sheet: Sheet,
     pub sense: Sense,
 }
 
@@ -40,31 +44,23 @@ impl Printer {
 
     // What a refused Start hands back: all zeros, which no other call takes.
     pub const NONE: Printer = Printer {
-        state: State {
-            fixed: Fixed {
-                length: 0,
-                pitches: [0; 4],
-            },
-            blocked: false,
-            forms: Forms {
-                fcb: [0; 144],
-                count: 0,
-            },
-            slots: Slots {
-                loaded: [false; 4],
-                selected: 0,
-            },
-            copies: Copies {
-                pairs: [0; 16],
-                count: 0,
-                reference: 0,
-            },
-            sheet: Sheet {
-                line: 0,
-                written: false,
-                waiting: false,
-                due: false,
-            },
+        fixed: Fixed {
+            length: 0,
+            pitches: [0; 4],
+        },
+        blocked: false,
+        fcb: 0,
+        slots: Slots {
+            loaded: [false; 4],
+            selected: 0,
+        },
+        pairs: 0,
+        reference: 0,
+        sheet: Sheet {
+            line: 0,
+            written: false,
+            waiting: false,
+            due: false,
         },
         sense: Sense::CLEAR,
     };

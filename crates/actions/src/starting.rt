@@ -1,11 +1,8 @@
-// What Start and a reset leave: the starting FCB, the starting state, and no printer.
+// What Start and a reset leave: the starting sequence and FCB, the starting state, and no printer.
 use crate::Printer;
 use crate::Step;
 use calls::Fixed;
 use calls::Sheet;
-use calls::State;
-use copies::Copies;
-use form::Forms;
 use line::Slots;
 use numbers::Answer;
 use numbers::Refusal;
@@ -13,61 +10,63 @@ use numbers::Sense;
 ghost use mathlib.Core.Path.{_≡_};
 ghost use mathlib.Core.Bool.{true};
 ghost use mathlib.Core.List.{[], _∷_};
-ghost use Rattle.seq.specs.Words.{listed};
+ghost use lib.ListN.{length, set};
+ghost use Rattle.seq.specs.Words.{listed, zeros};
 ghost use Rattle.numbers.specs.declared.Refusal.the-variants.{Accepted};
 ghost use Rattle.numbers.specs.Numbers.{only};
-ghost use Rattle.form.specs.Form.{formLengths, startFcb, formsOf};
+ghost use Rattle.form.specs.Form.{formLengths, fcbSize};
+ghost use Rattle.copies.specs.Copies.{startCopies};
 ghost use Rattle.calls.specs.Reset.{resetState};
 ghost use Rattle.calls.specs.Start.{startWorld, noPrinter};
 ghost use Rattle.calls.proofs.Accepted.{Startable};
 ghost use Rattle.calls.specs.Core.{Stores, storesOf};
-ghost use Rattle.actions.specs.Whole.{outcome};
+ghost use Rattle.actions.specs.Whole.{lent, lentOf, keptSize, pairsIn, fcbIn, stateOf, outcome};
 
 impl Printer {
-    // The starting FCB of a listed form: 6 lines per inch, with channel 1 at line 1.
-    fn start_forms(length: u16) -> Forms
-        requires { ⌜ listed formLengths length ≡ true ⌝ }
-        ensures { λ r. ⌜ r ≡ formsOf (startFcb length) ⌝ }
+    // The sequence of one copy with mark 0, and the starting FCB: 6 lines per inch, with channel 1 at line 1.
+    fn start_kept(kept: &mut [u8])
+        requires { ⌜ length (now kept) ≡ 160 ⌝ }
+        ensures pairs { λ _. ⌜ pairsIn (now (kept .exit)) ≡ startCopies .pairs ⌝ }
+        ensures fcb { λ _. ⌜ fcbIn (now (kept .exit)) ≡ set (zeros fcbSize) 3 1 ⌝ }
     {
-        let mut fcb = [0u8; 144];
-        fcb[3] = 1;
-        Forms {
-            fcb: fcb,
-            count: (length / 4) as u8,
-        }
+        seq::fill(kept, 0);
+        kept[0] = 1;
+        kept[19] = 1;
     }
 
-    // The starting state on a listed form, which a reset puts back; the check switch stays.
-    pub(crate) fn start_state(fixed: Fixed, blocked: bool) -> State
+    // The starting state on a listed form, which a reset puts back; the check switch and the sense stay.
+    pub(crate) fn start_state(fixed: Fixed, blocked: bool, sense: Sense, kept: &mut [u8]) -> Printer
         requires { ⌜ listed formLengths (fixed .length) ≡ true ⌝ }
-        ensures { λ r. ⌜ r ≡ resetState fixed blocked ⌝ }
+        requires { ⌜ length (now kept) ≡ 160 ⌝ }
+        ensures state { λ r. ⌜ stateOf r (now (kept .exit)) ≡ resetState fixed blocked ⌝ }
+        ensures sense { λ r. ⌜ r .sense ≡ sense ⌝ }
     {
+        Printer::start_kept(kept);
         let length = fixed.length;
-        State {
+        Printer {
             fixed: fixed,
             blocked: blocked,
-            forms: Printer::start_forms(length),
+            fcb: (length / 4) as u8,
             slots: Slots {
                 loaded: [true, false, false, false],
                 selected: 0,
             },
-            copies: Copies {
-                pairs: [1, 0, 0, 0, 0, 0, 0, 0, 0, 0, 0, 0, 0, 0, 0, 0],
-                count: 2,
-                reference: 1,
-            },
+            pairs: 2,
+            reference: 1,
             sheet: Sheet {
                 line: 1,
                 written: false,
                 waiting: false,
                 due: false,
             },
+            sense: sense,
         }
     }
 
     // What a refused Start hands back: no printer.
     pub fn none(refusal: Refusal) -> Step
-        ensures { λ r. ⌜ ((m : Stores) → outcome r [] m ≡ record { answer = only refusal 0; buffer = []; world = noPrinter m }) ⌝ }
+        ensures { λ r. ⌜ ((m : Stores) → outcome r [] (lent (zeros keptSize) m)
+            ≡ record { answer = only refusal 0; buffer = []; world = noPrinter m }) ⌝ }
     {
         Step {
             printer: Printer::NONE,
@@ -89,12 +88,14 @@ impl Printer {
         p1: u32,
         p2: u32,
         p3: u32,
+        kept: &mut [u8],
         page: &mut [u8],
         legends: &mut [u8],
         tables: &mut [u8],
     ) -> Step
         requires { ⌜ Startable form (p0 ∷ p1 ∷ p2 ∷ p3 ∷ []) (storesOf (now page) (now legends) (now tables)) ⌝ }
-        ensures { λ r. ⌜ outcome r [] (storesOf (now (page .exit)) (now (legends .exit)) (now (tables .exit)))
+        requires { ⌜ length (now kept) ≡ 160 ⌝ }
+        ensures { λ r. ⌜ outcome r [] (lentOf (now (kept .exit)) (now (page .exit)) (now (legends .exit)) (now (tables .exit)))
             ≡ record { answer = only Accepted 0; buffer = []; world = startWorld form (p0 ∷ p1 ∷ p2 ∷ p3 ∷ []) } ⌝ }
     {
         let fixed = Fixed {
@@ -105,10 +106,7 @@ impl Printer {
         seq::fill(legends, 0);
         line::tables::start_tables(tables);
         Step {
-            printer: Printer {
-                state: Printer::start_state(fixed, false),
-                sense: Sense::CLEAR,
-            },
+            printer: Printer::start_state(fixed, false, Sense::CLEAR, kept),
             answer: Answer::DONE,
         }
     }

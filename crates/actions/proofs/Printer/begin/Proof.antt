@@ -37,39 +37,41 @@ unfolding startWorld fresh resetStores noCells noLegends
 begin-spec =
     tie.close
     (tie.spec
-    (λ c. let s = c .before .before .before in omega (arith, short-form (s .args .form) (form-listed _ _ (s .pre .form))))
-    (λ c. let s = c .before .before .before in omega (
+    (λ c. let s = c .before .before .before .before in omega (arith, short-form (s .args .form) (form-listed _ _ (s .pre .0 .form))))
+    (λ c. let s = c .before .before .before .before in omega (
       arith,
       bytes (s .args .form) (s .args .p0) (s .args .p1) (s .args .p2) (s .args .p3)
-          (s .pre .form) .0,
+          (s .pre .0 .form) .0,
     ))
-    (λ c. let s = c .before .before .before in omega (
+    (λ c. let s = c .before .before .before .before in omega (
       arith,
       bytes (s .args .form) (s .args .p0) (s .args .p1) (s .args .p2) (s .args .p3)
-          (s .pre .form) .1 .0,
+          (s .pre .0 .form) .1 .0,
     ))
-    (λ c. let s = c .before .before .before in omega (
+    (λ c. let s = c .before .before .before .before in omega (
       arith,
       bytes (s .args .form) (s .args .p0) (s .args .p1) (s .args .p2) (s .args .p3)
-          (s .pre .form) .1 .1 .0,
+          (s .pre .0 .form) .1 .1 .0,
     ))
-    (λ c. let s = c .before .before .before in omega (
+    (λ c. let s = c .before .before .before .before in omega (
       arith,
       bytes (s .args .form) (s .args .p0) (s .args .p1) (s .args .p2) (s .args .p3)
-          (s .pre .form) .1 .1 .1,
+          (s .pre .0 .form) .1 .1 .1,
     ))
     (λ c κs. search needs)
     (λ c κs. search needs)
-    (λ c κs. let s = c .before .before .before .before .before .before .before .before .before .before .before .before in
-    sizes-good _ (s .pre .sizes) .tables)
-    (λ c κs. let s = c .before .before .before .before .before .before .before .before .before .before .before .before .before .before .before in
-    form-listed _ _ (s .pre .form))
+    (λ c κs. let s = c .before .before .before .before .before .before .before .before .before .before .before .before .before in
+    sizes-good _ (s .pre .0 .sizes) .tables)
+    (λ c κs. let s = c .before .before .before .before .before .before .before .before .before .before .before .before .before .before .before .before .before in
+    (form-listed _ _ (s .pre .0 .form), s .pre .1))
     (λ c. search needs)
     (λ c. search needs)
     (λ c. search needs)
-    (λ c. let t = c .before .before .before in let l = t .before .before .before .before in let p = l .before .before .before .before in
-    let z = sizes-good _ (p .before .before .before .before .before .pre .sizes) in rw (
-      c .start-state .ensures,
+    (λ c. search needs)
+    (λ c. let k = c .before .before in let t = k .before .before .before .before in let l = t .before .before .before .before in
+    let p = l .before .before .before .before in let z = sizes-good _ (p .before .before .before .before .before .before .pre .0 .sizes) in rw (
+      k .start-state .ensures .0,
+      k .start-state .ensures .1,
       t .start-tables .ensures,
       l .fill2 .ensures ∙ ap (λ (n : ℕ). replicate n 0) (z .legends),
       p .fill .ensures ∙ ap (λ (n : ℕ). replicate n 0) (z .page),

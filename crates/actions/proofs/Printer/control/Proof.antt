@@ -19,7 +19,7 @@ control-spec =
     (λ c. search needs)
     (λ c κs. search needs)
     (λ c. search needs)
-    (λ c κs. let s = c .before .before .before .before .before .before in ltb-false _ 24 (ap (λ (k : Control). controlTraits k .replies && ltb
+    (λ c κs. let s = c .before .before .before .before .before .before .before in ltb-false _ 24 (ap (λ (k : Control). controlTraits k .replies && ltb
     (length (s .args .reply .now)) 24) (sym (c .before .enum-told2 .given .1)) ∙ s .pre .1 .0))
     (λ c. search needs)
     (λ c κs. search needs)
@@ -36,7 +36,8 @@ control-spec =
     (λ c. λ p. let e = c .before .before in rw (e .before .before .enum-told2 .given .1) (e .sense-io .ensures _))
     (λ c. search needs)
     (λ c. search needs)
-    (λ c. λ p. let e = c .before .before .before .before in rw (e .before .before .before .enum-told3 .given .1) (e .initialize .ensures p _))
+    (λ c. search needs)
+    (λ c. λ p. let e = c .before .before .before .before .before .before in rw (e .before .before .before .before .enum-told3 .given .1) (e .initialize .ensures p _))
     (λ c. λ p. rw (c .before .enum-told4 .given .1) (c .clear .ensures _ _))
     (λ c. λ p. rw (c .before .enum-told5 .given .1) (c .block .ensures _ _))
     (λ c. λ p. rw (c .before .enum-told6 .given .1) (c .block2 .ensures _ _))

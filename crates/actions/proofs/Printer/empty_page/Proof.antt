@@ -11,7 +11,7 @@ use Rattle.actions.proofs.Printer.empty_page.Tie as tie
 
 no-page : (c : tie.After-fill) → c .fill .last .0 ≡ noCells
 unfolding noCells
-no-page c = c .fill .ensures ∙ ap (λ (n : ℕ). replicate n 0) (c .before .before .before .before .before .before .before .pre .1 .0)
+no-page c = c .fill .ensures ∙ ap (λ (n : ℕ). replicate n 0) (c .before .before .before .before .before .before .before .pre .1 .1 .0)
 
 pub empty-page-spec : {M : Type 1} → statement M
 unfolding doRelease released emptied
@@ -21,22 +21,11 @@ empty-page-spec =
     (λ c κs. search needs)
     (λ c κs. search needs)
     (λ c κs. search needs)
-    (λ c κs. let w = c .before .before .before in let s = w .before .before .before .before .before .before .before .before .before .before .before
-    in (rw (w .with-sheet .ensures) (s .pre .0), (s .pre .1 .1 .0, s .pre .1 .1 .1)))
     (λ c. search needs)
     (λ c. search needs)
     (λ c. search needs)
-    (λ c. λ b. let e = c .before .before .before .before in let w = e .before .before .before .before in outcome-is _ b _ (e .reset .ensures .0 _
-    ∙ rw (
-      e .before .before .before .if1 .taken,
-      ← no-page (w .before .before .before .before),
-      ← w .before .blank .ensures,
-      ← w .with-sheet .ensures,
-    )) (e .reset .ensures .1))
     (λ c. search needs)
-    (λ c. λ b. let w = c .before in outcome-is _ b _ (rw (
-      c .if1 .left,
-      ← no-page (w .before .before .before .before),
-      ← w .before .blank .ensures,
-      ← w .with-sheet .ensures,
-    )) refl))
+    (λ c. λ b. let r = c .before .before .before .before .before .before in let e = r .before .before .before .before in outcome-is _ b _ (r .reset .ensures .0 _
+    ∙ rw (e .if1 .taken, ← no-page (e .before .before .before .before), ← e .before .blank .ensures)) (r .reset .ensures .1))
+    (λ c. search needs)
+    (λ c. λ b. outcome-is _ b _ (rw (c .if1 .left, ← no-page (c .before .before .before .before), ← c .before .blank .ensures)) refl))

@@ -19,7 +19,8 @@ initialize-spec =
     (λ c κs. search needs)
     (λ c. search needs)
     (λ c. search needs)
-    (λ c. λ p b. let r = c .before .before .before .before .before in let e = r .before .before .before in rw (
+    (λ c. search needs)
+    (λ c. λ p b. let r = c .before .before .before .before .before .before .before in let e = r .before .before .before .before in rw (
       sym (e .before .is-started .ensures)
           ∙ e .if1 .left,
       ← r .reset .ensures .0 p,

@@ -18,8 +18,8 @@ use Rattle.actions.proofs.Printer.load.Statement.{statement}
 use Rattle.actions.proofs.Printer.load.Tie as tie
 
 -- what the check said of the load that it is
-sound : (c : tie.Start) {l : Load} → c .args .load ≡ l → loadCheck (c .args .self .state .fixed .length) l (c .args .sent .now) ≡ Sound
-sound c e = ap (λ (l : Load). loadCheck (c .args .self .state .fixed .length) l (c .args .sent .now)) (sym e) ∙ c .pre .1 .1 .0
+sound : (c : tie.Start) {l : Load} → c .args .load ≡ l → loadCheck (c .args .self .fixed .length) l (c .args .sent .now) ≡ Sound
+sound c e = ap (λ (l : Load). loadCheck (c .args .self .fixed .length) l (c .args .sent .now)) (sym e) ∙ c .pre .1 .1 .0
 
 one-byte : (r : List ℕ) → numberCheck r ≡ Sound → 1 ≤ length r
 unfolding numberCheck
@@ -31,28 +31,25 @@ load-spec =
     tie.close
     (tie.spec
     (λ c. search needs)
-    (λ c κs. let s = c .before .before .before .before .before in fcb-fits _ _ (form-listed _ (s .args .self .state .fixed .pitches) (s .pre .0))
-    (sound s (c .enum-told .given .1)))
-    (λ c. search needs)
-    (λ c κs. let s = c .before .before .before .before .before .before in (
-      s .pre .1 .0,
-      (
-        table-long _ (sound s (c .before .enum-told2 .given .1)),
-        s .pre .1 .1 .1 .1 .1,
-      ),
-    ))
+    (λ c κs. let s = c .before .before .before .before .before .before .before in (fcb-fits _ _ (form-listed _ (s .args .self .fixed .pitches) (s .pre .0))
+    (sound s (c .before .enum-told .given .1)), s .pre .1 .1 .1 .1 .0))
     (λ c. search needs)
     (λ c κs. let s = c .before .before .before .before .before .before .before in
-    (s .pre .1 .0, (sound s (c .before .before .enum-told3 .given .1), (s .pre .1 .1 .1 .0, (s .pre .1 .1 .1 .1 .0, s .pre .1 .1 .1 .1 .1)))))
+    (s .pre .1 .0, (table-long _ (sound s (c .before .enum-told2 .given .1)), s .pre .1 .1 .1 .1 .1 .1)))
     (λ c. search needs)
-    (λ c κs. let s = c .before .before .before .before .before in sequence-fits _ (sound s (c .enum-told4 .given .1)))
+    (λ c κs. let s = c .before .before .before .before .before .before .before .before in
+    (s .pre .1 .0, (sound s (c .before .before .enum-told3 .given .1), (s .pre .1 .1 .1 .0, s .pre .1 .1 .1 .1 .1))))
     (λ c. search needs)
-    (λ c κs. let s = c .before .before .before .before .before in one-byte _ (sound s (c .enum-told5 .given .1)))
-    (λ c. λ p b. rw (c .before .enum-told .given .1) (c .load-fcb .ensures _ b))
+    (λ c κs. let s = c .before .before .before .before .before .before .before in (sequence-fits _ (sound s (c .before .enum-told4 .given .1)), s .pre .1 .1 .1 .1 .0))
     (λ c. search needs)
-    (λ c. λ p b. let e = c .before .before in rw (e .before .before .enum-told2 .given .1) (e .load-table .ensures p _ b))
+    (λ c κs. let s = c .before .before .before .before .before .before in one-byte _ (sound s (c .enum-told5 .given .1)))
+    (λ c. search needs)
+    (λ c. λ p b. let e = c .before .before in rw (e .before .before .enum-told .given .1) (e .load-fcb .ensures _ b))
+    (λ c. search needs)
+    (λ c. λ p b. let e = c .before .before in rw (e .before .before .enum-told2 .given .1) (e .load-table .ensures _ p _ b))
     (λ c. search needs)
     (λ c. search needs)
-    (λ c. λ p b. let e = c .before .before in rw (e .before .before .before .enum-told3 .given .1) (e .load-legends .ensures p b))
-    (λ c. λ p b. rw (c .before .enum-told4 .given .1) (c .load-sequence .ensures _ b))
+    (λ c. λ p b. let e = c .before .before in rw (e .before .before .before .enum-told3 .given .1) (e .load-legends .ensures _ p b))
+    (λ c. search needs)
+    (λ c. λ p b. let e = c .before .before in rw (e .before .before .enum-told4 .given .1) (e .load-sequence .ensures _ b))
     (λ c. λ p b. rw (c .before .enum-told5 .given .1) (c .load-number .ensures _ b)))

@@ -15,20 +15,20 @@ load-legends-spec =
     (tie.spec
     (λ c κs. search needs)
     (λ c κs. search needs)
-    (λ c κs. let s = c .before .before .before .before .before .before .before .before .before .before in (
+    (λ c κs. let s = c .before .before .before .before .before .before .before .before .before in (
       s .pre .1 .1 .1 .0,
       (
         s .pre .1 .1 .0,
         (
           s .pre .1 .0,
           ap length (c .before .serving .ensures)
-              ∙ length-serving (s .args .self .state .slots) (s .args .tables .now) (s .pre .0) (s .pre .1 .1 .1 .1),
+              ∙ length-serving (s .args .self .slots) (s .args .tables .now) (s .pre .0) (s .pre .1 .1 .1 .1),
         ),
       ),
     ))
     (λ c κs. search needs)
     (λ c. search needs)
-    (λ c. λ p b. let e = c .before .before .before in rw (
+    (λ c. λ a p b. let e = c .before .before .before in rw (
       ← e .before .before .serving .ensures,
       ← e .store-legends .ensures .0,
       ← e .store-legends .ensures .1,

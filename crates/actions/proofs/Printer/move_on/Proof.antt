@@ -14,10 +14,8 @@ move-on-spec =
     (λ c κs. search needs)
     (λ c κs. search needs)
     (λ c κs. search needs)
-    (λ c κs. search needs)
-    (λ c. λ m b. let e = c .before .before .before in rw (
-      ← e .before .move-of .ensures,
-      ← e .or-unmatched .ensures,
-      ← c .before .before .moved-sheet .ensures,
-      ← c .before .with-sheet .ensures,
-    ) (c .finish .ensures m b)))
+    (λ c. λ m b. rw (
+      ← c .before .before .before .move-of .ensures,
+      ← c .before .before .or-unmatched .ensures,
+      ← c .before .moved-sheet .ensures,
+    ) (c .finish .ensures _ b)))

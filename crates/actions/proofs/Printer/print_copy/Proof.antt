@@ -6,11 +6,13 @@ use native.Mathlib.Omega.{arith}
 use lib.ListN.{length, take}
 use lib.Seq.{length-take-le}
 use Rattle.line.specs.Line.{lineBytes}
+use Rattle.copies.specs.Copies.{copyNumber, copyMark}
 use Rattle.legends.specs.Legends.{composed}
 use Rattle.legends.proofs.ComposeLaws.{length-copyFrom}
 use Rattle.calls.specs.Core.{P}
 use Rattle.calls.specs.Calls.{copyAt, doCompose}
 use Rattle.calls.proofs.Good.{form-lines}
+use Rattle.actions.specs.Whole.{pairsIn, stateOf}
 use borrow.Author.Needs.{needs}
 use Rattle.actions.proofs.Printer.print_copy.Statement.{statement}
 use Rattle.actions.proofs.Printer.print_copy.Tie as tie
@@ -20,22 +22,24 @@ unfolding composed
 length-composed page legends p number h = length-copyFrom _ number 0 (take (lineBytes * p) page) ∙ length-take-le (lineBytes * p) page h
 
 pub print-copy-spec : {M : Type 1} → statement M
-unfolding doCompose copyAt
+unfolding doCompose copyAt copyNumber copyMark pairsIn
 print-copy-spec =
     tie.close
     (tie.spec
     (λ c κs. search needs)
-    (λ c κs. search needs)
+    (λ c. search needs)
+    (λ c. search needs)
     (λ c. search needs)
     (λ c κs. search needs)
     (λ c. search needs)
-    (λ c. λ t. let n = c .before .before .before .before .before in let s = n .before .before .before .before .before .before in
-    let l = form-lines (s .args .self .state) (s .args .form) (s .pre .0 .laid) in let fits : lineBytes * P (s .args .self .state) ≤ length
-    (s .args .page .now) = omega (arith, l, s .pre .0 .few, s .pre .1 .1 .1 .1 .0) in rw (
+    (λ c κs. search needs)
+    (λ c. search needs)
+    (λ c. λ t. let m = c .before .before .before .before .before in let s = m .before .before .before .before .before .before .before in
+    let k = stateOf (s .args .self) (s .args .kept .now) in let l = form-lines k (s .args .form) (s .pre .0 .laid) in
+    let fits : lineBytes * P k ≤ length (s .args .page .now) = omega (arith, l, s .pre .0 .few, s .pre .1 .1 .1 .1 .1 .0) in rw (
       c .before .before .compose .ensures,
-      n .before .copy-number .ensures,
-      n .copy-mark .ensures,
+      m .before .before .copy-number .ensures,
+      m .copy-mark .ensures,
       l,
-      length-composed (s .args .page .now) (s .args .legends .now) (P
-          (s .args .self .state)) _ fits,
+      length-composed (s .args .page .now) (s .args .legends .now) (P k) _ fits,
     )))

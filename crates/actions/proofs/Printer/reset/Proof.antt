@@ -16,9 +16,12 @@ reset-spec =
     (tie.spec
     (λ c κs. search needs)
     (λ c κs. search needs)
-    (λ c κs. let s = c .before .before .before .before .before .before .before .before .before .before .before in
-    form-listed _ (s .args .self .state .fixed .pitches) (s .pre .0))
+    (λ c κs. let s = c .before .before .before .before .before .before .before .before .before .before .before .before in
+    (form-listed _ (s .args .self .fixed .pitches) (s .pre .0), s .pre .1 .0))
     (λ c. search needs)
     (λ c. search needs)
-    (λ c. let t = c .before .before .before .before in let f = t .before .before .before .before in let s = f .before .before .before .before in
-    (λ p. rw (c .start-state .ensures, t .start-tables .ensures, f .fill .ensures ∙ ap (λ (n : ℕ). replicate n 0) (s .pre .1 .0)), refl)))
+    (λ c. search needs)
+    (λ c. let k = c .before .before in let t = k .before .before .before .before in let f = t .before .before .before .before in
+    let s = f .before .before .before .before .before in
+    (λ p. rw (k .start-state .ensures .0, t .start-tables .ensures, f .fill .ensures ∙ ap (λ (n : ℕ). replicate n 0) (s .pre .1 .1 .0)),
+    k .start-state .ensures .1)))

@@ -18,5 +18,5 @@ sense-io-spec =
     (λ c κs. search needs)
     (λ c κs. search needs)
     (λ c. search needs)
-    (λ c. λ m. rw (c .before .before .before .copy-all .ensures, c .before .before .before .before .before .before .sense-bytes .ensures)
-    (c .quietly .ensures m _)))
+    (λ c. λ l. rw (c .before .before .before .copy-all .ensures, c .before .before .before .before .before .before .sense-bytes .ensures (l .kept))
+    (c .quietly .ensures l _)))

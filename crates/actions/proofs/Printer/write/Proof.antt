@@ -15,14 +15,12 @@ write-spec =
     (λ c κs. search needs)
     (λ c κs. search needs)
     (λ c κs. search needs)
-    (λ c κs. search needs)
     (λ c. search needs)
-    (λ c. λ l b. let e = c .before .before .before .before in let w = e .before .before .before in rw (
+    (λ c. λ l b. let e = c .before .before .before in let w = e .before .before .before in rw (
       ← w .before .before .move-of .ensures,
       ← w .write-line .ensures .1,
       ← w .write-line .ensures .0,
       ← e .or-unmatched .ensures,
-      ← c .before .before .before .mark .ensures,
-      ← c .before .before .moved-sheet .ensures,
-      ← c .before .with-sheet .ensures,
+      ← c .before .before .mark .ensures,
+      ← c .before .moved-sheet .ensures,
     ) (c .finish .ensures _ b)))

@@ -3,7 +3,6 @@
 use crate::Printer;
 use crate::Step;
 use calls::Sheet;
-use calls::State;
 use form::Layout;
 use line::Causes;
 use movement::Motion;
@@ -16,10 +15,10 @@ ghost use Prim.Native.Nat.{ℕ, _≤_};
 ghost use lib.ListN.{length};
 ghost use Rattle.movement.specs.Movement.{toTop};
 ghost use Rattle.line.specs.Line.{noCauses};
-ghost use Rattle.calls.specs.Core.{Stores, withSheet, storesOf};
+ghost use Rattle.calls.specs.Core.{Stores};
 ghost use Rattle.calls.specs.Reset.{blankSheet};
 ghost use Rattle.calls.specs.Effects.{refused, done, movedSheet, movedCore, moveOf, marked, doMove, doWrite, standing};
-ghost use Rattle.actions.specs.Whole.{Did, Ready};
+ghost use Rattle.actions.specs.Whole.{Lent, lent, lentOf, stateOf, Ready, Did};
 
 fn moved_sheet(due: bool, sheet: Sheet, moved: Moved) -> Sheet
     ensures { λ r. ⌜ r ≡ movedSheet due sheet moved ⌝ }
@@ -62,23 +61,9 @@ fn mark(sheet: Sheet) -> Sheet
     }
 }
 
-pub(crate) fn with_sheet(mut state: State, sheet: Sheet) -> State
-    ensures { λ r. ⌜ r ≡ withSheet state sheet ⌝ }
-{
-    state.sheet = sheet;
-    state
-}
-
-fn move_of(state: State, form: Layout, motion: Motion) -> Moved
-    requires { ⌜ Ready state form ⌝ }
-    ensures { λ r. ⌜ r ≡ moveOf state motion ⌝ }
-{
-    movement::move_form(state.forms, form.top, form.lines, state.sheet.line, motion)
-}
-
 impl Printer {
     pub fn refuse(mut self, refusal: Refusal, count: u16) -> Step
-        ensures { λ r. ⌜ ((m : Stores) → Did self m r m (λ k. refused k count refusal)) ⌝ }
+        ensures { λ r. ⌜ ((l : Lent) → Did self l r l (λ k. refused k count refusal)) ⌝ }
     {
         let sense = refusal.sense(self.sense, count);
         self.sense = sense;
@@ -97,9 +82,9 @@ impl Printer {
 
     // Accepted, with the sense set anew by its causes and its movement.
     fn finish(mut self, causes: Causes, moved: Moved) -> Step
-        ensures { λ r. ⌜ ((m : Stores) → Did self m r m (λ k. done k causes moved)) ⌝ }
+        ensures { λ r. ⌜ ((l : Lent) → Did self l r l (λ k. done k causes moved)) ⌝ }
     {
-        let b1 = line::cause_byte(self.state.blocked, causes);
+        let b1 = line::cause_byte(self.blocked, causes);
         let check = b1 != 0;
         let b0 = seq::flag(check, 0x08) + seq::flag(moved.nine, 0x01);
         let status = 0x0C + seq::flag(check | moved.nine, 0x02) + seq::flag(moved.twelve, 0x01);
@@ -120,12 +105,12 @@ impl Printer {
 
     // Accepted, with nothing moved.
     pub(crate) fn stand(self, causes: Causes) -> Step
-        ensures { λ r. ⌜ ((m : Stores) → Did self m r m (λ k. done k causes (standing k))) ⌝ }
+        ensures { λ r. ⌜ ((l : Lent) → Did self l r l (λ k. done k causes (standing k))) ⌝ }
     {
         let moved = Moved {
             lines: 0,
             pages: 0,
-            line: self.state.sheet.line,
+            line: self.sheet.line,
             nine: false,
             twelve: false,
             missed: false,
@@ -135,24 +120,31 @@ impl Printer {
 
     // The page is completed; its Release is to reset where `due` says so.
     pub(crate) fn complete(mut self, due: bool) -> Step
-        ensures { λ r. ⌜ ((m : Stores) → Did self m r m (λ k. done (movedCore due k toTop) noCauses toTop)) ⌝ }
+        ensures { λ r. ⌜ ((l : Lent) → Did self l r l (λ k. done (movedCore due k toTop) noCauses toTop)) ⌝ }
     {
-        let sheet = moved_sheet(due, self.state.sheet, Moved::TOP);
-        let state = with_sheet(self.state, sheet);
-        self.state = state;
+        let sheet = moved_sheet(due, self.sheet, Moved::TOP);
+        self.sheet = sheet;
         self.finish(Causes::NONE, Moved::TOP)
     }
 
-    // The immediate commands.
-    pub fn move_on(mut self, form: Layout, motion: Motion) -> Step
-        requires { ⌜ Ready (self .state) form ⌝ }
-        ensures { λ r. ⌜ ((m : Stores) → Did self m r m (λ k. doMove k motion)) ⌝ }
+    fn move_of(self, form: Layout, motion: Motion, kept: &[u8]) -> Moved
+        requires { ⌜ Ready (stateOf self (now kept)) form ⌝ }
+        requires { ⌜ length (now kept) ≡ 160 ⌝ }
+        ensures { λ r. ⌜ r ≡ moveOf (stateOf self (now (kept .entry))) motion ⌝ }
     {
-        let moved = move_of(self.state, form, motion);
+        movement::move_form(&kept[16..160], form.top, form.lines, self.sheet.line, motion)
+    }
+
+    // The immediate commands.
+    pub fn move_on(mut self, form: Layout, motion: Motion, kept: &[u8]) -> Step
+        requires { ⌜ Ready (stateOf self (now kept)) form ⌝ }
+        requires { ⌜ length (now kept) ≡ 160 ⌝ }
+        ensures { λ r. ⌜ ((m : Stores) → let l = lent (now (kept .entry)) m in Did self l r l (λ k. doMove k motion)) ⌝ }
+    {
+        let moved = self.move_of(form, motion, kept);
         let causes = line::or_unmatched(Causes::NONE, moved.missed);
-        let sheet = moved_sheet(false, self.state.sheet, moved);
-        let state = with_sheet(self.state, sheet);
-        self.state = state;
+        let sheet = moved_sheet(false, self.sheet, moved);
+        self.sheet = sheet;
         self.finish(causes, moved)
     }
 
@@ -162,34 +154,34 @@ impl Printer {
         form: Layout,
         motion: Motion,
         sent: &[u8],
+        kept: &[u8],
         page: &mut [u8],
         tables: &[u8],
     ) -> Step
-        requires { ⌜ Ready (self .state) form ⌝ }
+        requires { ⌜ Ready (stateOf self (now kept)) form ⌝ }
+        requires { ⌜ length (now kept) ≡ 160 ⌝ }
         requires { ⌜ length (now sent) ≤ 204 ⌝ }
         requires { ⌜ length (now page) ≡ 26928 ⌝ }
         requires { ⌜ length (now tables) ≡ 1024 ⌝ }
-        ensures { λ r. ⌜ ((l : List ℕ) → Did self (storesOf (now (page .entry)) l (now (tables .entry))) r
-            (storesOf (now (page .exit)) l (now (tables .entry))) (λ k. doWrite k motion (now (sent .entry)))) ⌝ }
+        ensures { λ r. ⌜ ((l : List ℕ) → Did self (lentOf (now (kept .entry)) (now (page .entry)) l (now (tables .entry))) r
+            (lentOf (now (kept .entry)) (now (page .exit)) l (now (tables .entry))) (λ k. doWrite k motion (now (sent .entry)))) ⌝ }
     {
-        let before = self.state;
-        let sheet = before.sheet;
-        let fixed = before.fixed;
+        let sheet = self.sheet;
+        let fixed = self.fixed;
         let pitches = fixed.pitches;
-        let moved = move_of(before, form, motion);
+        let moved = self.move_of(form, motion, kept);
         let found = line::write_line(
             page,
             sheet.line,
             sheet.written,
             sent,
             pitches,
-            before.slots,
+            self.slots,
             tables,
         );
         let causes = line::or_unmatched(found, moved.missed);
         let after = moved_sheet(false, mark(sheet), moved);
-        let state = with_sheet(before, after);
-        self.state = state;
+        self.sheet = after;
         self.finish(causes, moved)
     }
 }

@@ -1,8 +1,8 @@
 -- The definition itself.
 use Rattle.calls.specs.Reset.{blankSheet}
 use borrow.Author.Needs.{needs}
-use Rattle.actions.proofs.actions.blank.Statement.{statement}
-use Rattle.actions.proofs.actions.blank.Tie as tie
+use Rattle.actions.proofs.moves.blank.Statement.{statement}
+use Rattle.actions.proofs.moves.blank.Tie as tie
 
 pub blank-spec : {M : Type 1} → statement M
 unfolding blankSheet

@@ -1,8 +1,8 @@
 -- Its two cases.
 use borrow.Author.Tests.{eq-eqb, ne-eqb}
 use Rattle.calls.specs.Effects.{movedSheet}
-use Rattle.actions.proofs.actions.moved_sheet.Statement.{statement}
-use Rattle.actions.proofs.actions.moved_sheet.Tie as tie
+use Rattle.actions.proofs.moves.moved_sheet.Statement.{statement}
+use Rattle.actions.proofs.moves.moved_sheet.Tie as tie
 
 pub moved-sheet-spec : {M : Type 1} → statement M
 unfolding movedSheet

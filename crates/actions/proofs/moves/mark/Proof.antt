@@ -1,8 +1,8 @@
 -- The definition itself.
 use Rattle.calls.specs.Effects.{marked}
 use borrow.Author.Needs.{needs}
-use Rattle.actions.proofs.actions.mark.Statement.{statement}
-use Rattle.actions.proofs.actions.mark.Tie as tie
+use Rattle.actions.proofs.moves.mark.Statement.{statement}
+use Rattle.actions.proofs.moves.mark.Tie as tie
 
 pub mark-spec : {M : Type 1} → statement M
 unfolding marked
