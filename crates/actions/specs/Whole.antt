@@ -19,11 +19,11 @@ pub record Lent : Type 0 where
   pub kept : List ℕ
   pub stores : Stores
 
-abbrev pub lent : List ℕ → Stores → Lent
-lent kept m = record { kept = kept; stores = m }
+abbrev pub lentWith : List ℕ → Stores → Lent
+lentWith kept m = record { kept = kept; stores = m }
 
 abbrev pub lentOf : List ℕ → List ℕ → List ℕ → List ℕ → Lent
-lentOf kept page legends tables = lent kept (storesOf page legends tables)
+lentOf kept page legends tables = lentWith kept (storesOf page legends tables)
 
 abbrev pub keptSize : ℕ
 keptSize = 160

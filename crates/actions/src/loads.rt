@@ -15,7 +15,7 @@ ghost use Rattle.legends.specs.Legends.{legendCheck};
 ghost use Rattle.calls.specs.declared.Load.the-variants.{Fcb, TranslateTable, CopyModification, OverlaySequence, CopyNumber};
 ghost use Rattle.calls.specs.Core.{Stores};
 ghost use Rattle.calls.specs.Effects.{loadCheck, slotLoaded, doLoad};
-ghost use Rattle.actions.specs.Whole.{Lent, lent, lentOf, Did};
+ghost use Rattle.actions.specs.Whole.{Lent, lentWith, lentOf, Did};
 
 fn slot_loaded(slots: Slots) -> Slots
     requires { ⌜ slots .selected ≤ 3 ⌝ }
@@ -34,7 +34,7 @@ impl Printer {
     fn load_fcb(mut self, sent: &[u8], kept: &mut [u8]) -> Step
         requires { ⌜ length (now sent) ≤ 144 ⌝ }
         requires { ⌜ length (now kept) ≡ 160 ⌝ }
-        ensures { λ r. ⌜ ((m : Stores) → Did self (lent (now (kept .entry)) m) r (lent (now (kept .exit)) m) (λ k. doLoad k Fcb (now (sent .entry)))) ⌝ }
+        ensures { λ r. ⌜ ((m : Stores) → Did self (lentWith (now (kept .entry)) m) r (lentWith (now (kept .exit)) m) (λ k. doLoad k Fcb (now (sent .entry)))) ⌝ }
     {
         seq::lay_padded(&mut kept[16..160], sent);
         let mut sheet = self.sheet;
@@ -86,7 +86,7 @@ impl Printer {
     fn load_sequence(mut self, sent: &[u8], kept: &mut [u8]) -> Step
         requires { ⌜ length (now sent) ≤ 16 ⌝ }
         requires { ⌜ length (now kept) ≡ 160 ⌝ }
-        ensures { λ r. ⌜ ((m : Stores) → Did self (lent (now (kept .entry)) m) r (lent (now (kept .exit)) m) (λ k. doLoad k OverlaySequence (now (sent .entry)))) ⌝ }
+        ensures { λ r. ⌜ ((m : Stores) → Did self (lentWith (now (kept .entry)) m) r (lentWith (now (kept .exit)) m) (λ k. doLoad k OverlaySequence (now (sent .entry)))) ⌝ }
     {
         seq::lay_padded(&mut kept[0..16], sent);
         self.pairs = sent.len() as u8;

@@ -18,7 +18,7 @@ ghost use Rattle.line.specs.Line.{noCauses};
 ghost use Rattle.calls.specs.Core.{Stores};
 ghost use Rattle.calls.specs.Reset.{blankSheet};
 ghost use Rattle.calls.specs.Effects.{refused, done, movedSheet, movedCore, moveOf, marked, doMove, doWrite, standing};
-ghost use Rattle.actions.specs.Whole.{Lent, lent, lentOf, stateOf, Ready, Did};
+ghost use Rattle.actions.specs.Whole.{Lent, lentWith, lentOf, stateOf, Ready, Did};
 
 fn moved_sheet(due: bool, sheet: Sheet, moved: Moved) -> Sheet
     ensures { λ r. ⌜ r ≡ movedSheet due sheet moved ⌝ }
@@ -139,7 +139,7 @@ impl Printer {
     pub fn move_on(mut self, form: Layout, motion: Motion, kept: &[u8]) -> Step
         requires { ⌜ Ready (stateOf self (now kept)) form ⌝ }
         requires { ⌜ length (now kept) ≡ 160 ⌝ }
-        ensures { λ r. ⌜ ((m : Stores) → let l = lent (now (kept .entry)) m in Did self l r l (λ k. doMove k motion)) ⌝ }
+        ensures { λ r. ⌜ ((m : Stores) → let l = lentWith (now (kept .entry)) m in Did self l r l (λ k. doMove k motion)) ⌝ }
     {
         let moved = self.move_of(form, motion, kept);
         let causes = line::or_unmatched(Causes::NONE, moved.missed);

@@ -20,7 +20,7 @@ ghost use Rattle.calls.specs.Reset.{resetState};
 ghost use Rattle.calls.specs.Start.{startWorld, noPrinter};
 ghost use Rattle.calls.proofs.Accepted.{Startable};
 ghost use Rattle.calls.specs.Core.{Stores, storesOf};
-ghost use Rattle.actions.specs.Whole.{lent, lentOf, keptSize, pairsIn, fcbIn, stateOf, outcome};
+ghost use Rattle.actions.specs.Whole.{lentWith, lentOf, keptSize, pairsIn, fcbIn, stateOf, outcome};
 
 impl Printer {
     // The sequence of one copy with mark 0, and the starting FCB: 6 lines per inch, with channel 1 at line 1.
@@ -65,7 +65,7 @@ impl Printer {
 
     // What a refused Start hands back: no printer.
     pub fn none(refusal: Refusal) -> Step
-        ensures { λ r. ⌜ ((m : Stores) → outcome r [] (lent (zeros keptSize) m)
+        ensures { λ r. ⌜ ((m : Stores) → outcome r [] (lentWith (zeros keptSize) m)
             ≡ record { answer = only refusal 0; buffer = []; world = noPrinter m }) ⌝ }
     {
         Step {

@@ -7,8 +7,7 @@ use lib.ListN.{length, length-take}
 use borrow.Author.Tests.{leb-true}
 use Rattle.seq.proofs.Laws.{every-at}
 use Rattle.form.specs.declared.Layout.{Layout}
-use Rattle.form.specs.Form.{Forms}
-use Rattle.form.specs.Form.{fcbNow, layoutOf, formsInRange}
+use Rattle.form.specs.Form.{Forms, fcbNow, layoutOf, formsInRange}
 use Rattle.form.proofs.FormLaws.{form-listed, few-lines}
 use Rattle.form.proofs.LayoutLaws.{layout-fits}
 use Rattle.line.specs.Line.{slotsInRange}

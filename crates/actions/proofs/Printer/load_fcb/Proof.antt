@@ -5,7 +5,7 @@ use Rattle.movement.specs.Movement.{still}
 use Rattle.line.specs.Line.{noCauses}
 use Rattle.calls.specs.Effects.{done, atLine1, loaded, loadCauses, doLoad}
 use Rattle.form.specs.Form.{formsOf}
-use Rattle.actions.specs.Whole.{lent, fcbIn}
+use Rattle.actions.specs.Whole.{lentWith, fcbIn}
 use Rattle.actions.proofs.Kept.{fcb-laid}
 use borrow.Author.Needs.{needs}
 use Rattle.actions.proofs.Printer.load_fcb.Statement.{statement}
@@ -25,4 +25,4 @@ load-fcb-spec =
     (λ c. search needs)
     (λ c. λ m b. let p = c .before .before .before .before in let s = p .before .before .before .before in let k = s .args .kept .now in
     let e = fcb-laid k (s .args .sent .now) (s .pre .1) (s .pre .0) (p .lay-padded .ensures) in rw (e .0, e .1) (rw (e .0, e .1) at
-    (c .stand .ensures (lent (take 16 k ++ (p .lay-padded .last .0 ++ drop 144 (drop 16 k))) m) b))))
+    (c .stand .ensures (lentWith (take 16 k ++ (p .lay-padded .last .0 ++ drop 144 (drop 16 k))) m) b))))

@@ -4,7 +4,7 @@ use lib.ListN.{drop}
 use Rattle.line.specs.Line.{noCauses}
 use Rattle.calls.specs.Effects.{loaded, loadCauses, doLoad}
 use Rattle.copies.specs.Copies.{withSequence}
-use Rattle.actions.specs.Whole.{lent, pairsIn}
+use Rattle.actions.specs.Whole.{lentWith, pairsIn}
 use Rattle.actions.proofs.Kept.{pairs-laid}
 use borrow.Author.Needs.{needs}
 use Rattle.actions.proofs.Printer.load_sequence.Statement.{statement}
@@ -24,4 +24,4 @@ load-sequence-spec =
     (λ c. search needs)
     (λ c. λ m b. let p = c .before .before .before in let s = p .before .before .before .before in let k = s .args .kept .now in
     let e = pairs-laid k (s .args .sent .now) (s .pre .1) (s .pre .0) (p .lay-padded .ensures) in rw (e .0, e .1) (rw (e .0, e .1) at
-    (c .stand .ensures (lent (p .lay-padded .last .0 ++ drop 16 k) m) b))))
+    (c .stand .ensures (lentWith (p .lay-padded .last .0 ++ drop 16 k) m) b))))
