@@ -8,10 +8,9 @@ use Rattle.form.specs.Form.{formOk, formsInRange}
 use Rattle.line.specs.Line.{slotsInRange}
 use Rattle.copies.specs.Copies.{copiesInRange}
 use Rattle.legends.specs.Legends.{legendsOk}
-use Rattle.calls.specs.Core.{State}
-use Rattle.calls.specs.Core.{Stores, sizesOk, P}
+use Rattle.calls.specs.Core.{Stores, State, sizesOk, P}
 use Rattle.calls.specs.Contents.{lineOk, rangesOk, dueOk, markOk, formsOk, sequenceOk, coreOk}
-use Rattle.bytes.specs.State.{printerOf, readable}
+use Rattle.bytes.specs.State.{stateAt, readable}
 use Rattle.bytes.specs.Contents.{soundBytes, stateOk, fieldsOk, copiesOk, formsLineOk}
 
 -- fixed, slots, due, mark; copies, sequence; forms, line, FCB
@@ -46,9 +45,9 @@ reorder r true true true true false q l = refl
 reorder r true true true true true false l = refl
 reorder r true true true true true true l = refl
 
-pub sound-parts : (s : List ℕ) (m : Stores) → soundBytes s m ≡ (sizesOk m && (readable s && (stateOk (printerOf s .state) && legendsOk (m .legends))))
+pub sound-parts : (s : List ℕ) (m : Stores) → soundBytes s m ≡ (sizesOk m && (readable s && (stateOk (stateAt s) && legendsOk (m .legends))))
 unfolding soundBytes coreOk stateOk every
 sound-parts s m =
-    let p = printerOf s .state in
+    let p = stateAt s in
     simp and-true
     (reorder (readable s) (sizesOk m) (rangesOk p) (dueOk (p .sheet)) (markOk (p .sheet)) (formsOk p) (sequenceOk p) (legendsOk (m .legends)))

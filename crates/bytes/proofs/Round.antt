@@ -2,10 +2,10 @@
 use Prim.Native.Nat.{ℕ, zero, suc, _+_, _*_, _/_, _%_, _<_}
 use mathlib.Core.Path.{_≡_, refl, sym, ap, _∙_}
 use mathlib.Core.Bool.{Bool, true, false}
-use mathlib.Core.List.{List, [], _∷_, _++_, map}
+use mathlib.Core.List.{List, [], _∷_, _++_, map, append-nil}
 use native.Mathlib.Nat.{div-add-mod'}
 use native.Mathlib.Omega.{arith}
-use lib.ListN.{length, take, drop, getD, length-append, take-append-drop, length-drop}
+use lib.ListN.{length, take, drop, getD, length-append, take-append-drop, length-drop, drop-of-length-le}
 use lib.Seq.{take-at, drop-at, take-all, drop-drop, length-take-le}
 use lib.Dec.{eqb, leb}
 use mir.Val.{boolByte}
@@ -13,9 +13,12 @@ use borrow.Author.Tests.{eqb-true, eq-eqb, leb-true}
 use Rattle.seq.specs.Words.{all, listed, from}
 use Rattle.seq.proofs.Laws.{every-at, every-of, finally, also, listed-all, spelled, four}
 use Rattle.numbers.specs.declared.Sense.{Sense}
+use Rattle.form.specs.Form.{fcbSize}
+use Rattle.copies.specs.Copies.{pairSize}
 use Rattle.calls.specs.Core.{State}
 use Rattle.actions.specs.declared.Printer.{Printer}
-use Rattle.bytes.specs.State.{stateSize, bytesOf, printerOf, readable, flagPlaces, byteAt, flagAt, withSense}
+use Rattle.actions.specs.Whole.{keptSize, pairsIn, fcbIn, stateOf}
+use Rattle.bytes.specs.State.{stateSize, smallBytes, bytesOf, stateAt, senseAt, printerOf, keptAt, readable, flagPlaces, byteAt, flagAt}
 
 -- the arrays are as long as their types say: pitches, slots loaded, the overlay sequence's pairs, the FCB's bytes
 pub record Lengths (ps : List ℕ) (slots : List Bool) (qs f : List ℕ) : Type 0 where
@@ -24,11 +27,8 @@ pub record Lengths (ps : List ℕ) (slots : List Bool) (qs f : List ℕ) : Type 
   pub pairs : length qs ≡ 16
   pub fcb : length f ≡ 144
 
-abbrev pub SizedState : State → Type 0
-SizedState s = Lengths (s .fixed .pitches) (s .slots .loaded) (s .copies .pairs) (s .forms .fcb)
-
-abbrev pub Sized : Printer → Type 0
-Sized p = SizedState (p .state)
+abbrev pub Sized : State → Type 0
+Sized s = Lengths (s .fixed .pitches) (s .slots .loaded) (s .copies .pairs) (s .forms .fcb)
 
 -- a flag as a byte, and back
 bit-small : (b : Bool) → leb (boolByte b) 1 ≡ true
@@ -49,35 +49,35 @@ four-flags : (l : List Bool) → length l ≡ 4 → getD l 0 false ∷ getD l 1 
 four-flags l e = spelled false 0 4 l (omega arith) ∙ take-all 4 l (omega arith)
 
 -- a printer's bytes are as many as a state has, each flag is 0 or 1
-long : (p : Printer) → Sized p → length (bytesOf p) ≡ stateSize
+long : (s : State) (q : Sense) → Sized s → length (bytesOf s q) ≡ stateSize
 unfolding bytesOf
-long p z = simp length-append (omega (arith, z .pairs, z .fcb))
+long s q z = simp length-append (omega (arith, z .pairs, z .fcb))
 
-flagged : (p : Printer) → all (λ n. leb (byteAt (bytesOf p) n) 1) flagPlaces ≡ true
+flagged : (s : State) (q : Sense) → all (λ n. leb (byteAt (bytesOf s q) n) 1) flagPlaces ≡ true
 unfolding bytesOf
-flagged p = simp bit-small
+flagged s q = simp bit-small
 
-readable-bytes : (p : Printer) → Sized p → readable (bytesOf p) ≡ true
+pub readable-bytes : (s : State) (q : Sense) → Sized s → readable (bytesOf s q) ≡ true
 unfolding readable
-readable-bytes p z = every-of (also (eq-eqb _ _ (long p z)) (also (flagged p) finally))
+readable-bytes s q z = every-of (also (eq-eqb _ _ (long s q z)) (also (flagged s q) finally))
 
--- each field comes back
-parts : (p : Printer) → Sized p → printerOf (bytesOf p) ≡ p
-unfolding bytesOf printerOf
-parts p z =
+-- A printer comes back from its bytes, field by field.
+pub state-back : (s : State) (q : Sense) → Sized s → stateAt (bytesOf s q) ≡ s
+unfolding bytesOf stateAt
+state-back s q z =
     simp (
-      div-add-mod' (p .state .fixed .length) 256,
-      four (p .state .fixed .pitches) (z .pitches),
+      div-add-mod' (s .fixed .length) 256,
+      four (s .fixed .pitches) (z .pitches),
       bit-flag,
-      four-flags (p .state .slots .loaded) (z .loaded),
-      take-at (p .state .copies .pairs) (p .state .forms .fcb) 16 (z .pairs),
-      drop-at (p .state .copies .pairs) (p .state .forms .fcb) 16 (z .pairs),
-      take-all 144 (p .state .forms .fcb) (omega (arith, z .fcb)),
+      four-flags (s .slots .loaded) (z .loaded),
+      take-at (s .copies .pairs) (s .forms .fcb) 16 (z .pairs),
+      drop-at (s .copies .pairs) (s .forms .fcb) 16 (z .pairs),
+      take-all 144 (s .forms .fcb) (omega (arith, z .fcb)),
     )
 
--- A printer comes back from its bytes.
-pub round : (p : Printer) → Sized p → (readable (bytesOf p) ≡ true) × (printerOf (bytesOf p) ≡ p)
-round p z = (readable-bytes p z, parts p z)
+pub sense-back : (s : State) (q : Sense) → senseAt (bytesOf s q) ≡ q
+unfolding bytesOf senseAt
+sense-back s q = refl
 
 -- Bytes that stand for a printer: as many as a state has, and each flag 0 or 1.
 pub readable-size : (s : List ℕ) → readable s ≡ true → length s ≡ stateSize
@@ -89,8 +89,8 @@ unfolding readable
 flag-at s e n h = flag-bit (byteAt s n) (listed-all (λ k. leb (byteAt s k) 1) n flagPlaces (every-at 1 _ e) h)
 
 -- the printer that they stand for has arrays of the right lengths
-pub sized : (s : List ℕ) → readable s ≡ true → Sized (printerOf s)
-unfolding printerOf
+pub sized : (s : List ℕ) → readable s ≡ true → Sized (stateAt s)
+unfolding stateAt
 sized s e =
     let size : length s ≡ 184 = readable-size s e in
     record {
@@ -119,8 +119,8 @@ low : (a b : ℕ) → b < 256 → (a * 256 + b) % 256 ≡ b
 low a b h = omega arith
 
 -- Bytes that stand for a printer come back from it. Of their being bytes, all that counts is that of the form length's lower one.
-pub back : (s : List ℕ) → byteAt s 1 < 256 → readable s ≡ true → bytesOf (printerOf s) ≡ s
-unfolding bytesOf printerOf
+pub back : (s : List ℕ) → byteAt s 1 < 256 → readable s ≡ true → bytesOf (stateAt s) (senseAt s) ≡ s
+unfolding bytesOf stateAt senseAt
 back s h e =
     rw (
       high (byteAt s 0) (byteAt s 1) h,
@@ -137,11 +137,25 @@ back s h e =
     (cut s (readable-size s e))
 
 -- Two states that are different bytes are different printers.
-pub same-bytes : (s t : List ℕ) → byteAt s 1 < 256 → byteAt t 1 < 256 → readable s ≡ true → readable t ≡ true → printerOf s ≡ printerOf t → s ≡ t
-same-bytes s t h k d e p = sym (back s h d) ∙ ap bytesOf p ∙ back t k e
+pub same-bytes : (s t : List ℕ) → byteAt s 1 < 256 → byteAt t 1 < 256 → readable s ≡ true → readable t ≡ true → stateAt s ≡ stateAt t
+    → senseAt s ≡ senseAt t → s ≡ t
+same-bytes s t h k d e p q = sym (back s h d) ∙ (λ i. bytesOf (p i) (q i)) ∙ back t k e
 
--- With another sense in its bytes, a state stands for the printer with that sense.
-pub back-sense : (s : List ℕ) (q : Sense) → byteAt s 1 < 256 → readable s ≡ true
-    → withSense s q ≡ bytesOf (record { state = printerOf s .state; sense = q })
-unfolding bytesOf
-back-sense s q h e = ap (λ (l : List ℕ). withSense l q) (sym (back s h e))
+-- The printer by value with its arrays where they lie in the bytes is the state that they stand for.
+pub whole : (s : List ℕ) → length s ≡ stateSize → stateOf (printerOf s) (keptAt s) ≡ stateAt s
+unfolding stateAt pairsIn fcbIn
+whole s e = rw (take-all keptSize (drop 24 s) (simp length-drop (omega arith)), drop-drop pairSize 24 s)
+
+-- The small bytes of a printer over the front of s, whose arrays have become k: the bytes of both.
+pub laid : (s k : List ℕ) (p : Printer) → length s ≡ stateSize → length k ≡ keptSize
+    → smallBytes (stateOf p k) (p .sense) ++ drop 24 (take 24 s ++ (k ++ drop keptSize (drop 24 s))) ≡ bytesOf (stateOf p k) (p .sense)
+unfolding bytesOf pairsIn fcbIn
+laid s k p e h =
+    ap (λ (l : List ℕ). smallBytes (stateOf p k) (p .sense) ++ l)
+    (rw (
+      drop-at (take 24 s) (k ++ drop keptSize (drop 24 s)) 24 (length-take-le 24 s (omega arith)),
+      drop-of-length-le (drop keptSize (drop 24 s)) {i = 0} (simp length-drop (omega arith)),
+      append-nil,
+      take-all fcbSize (drop pairSize k) (simp length-drop (omega arith)),
+      take-append-drop pairSize k,
+    ))

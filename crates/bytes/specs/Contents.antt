@@ -6,14 +6,13 @@ use Rattle.seq.specs.Words.{every}
 use Rattle.form.specs.Form.{formOk, formsInRange}
 use Rattle.line.specs.Line.{slotsInRange}
 use Rattle.copies.specs.Copies.{copiesInRange}
-use Rattle.calls.specs.Core.{State}
-use Rattle.calls.specs.Core.{Stores, P}
+use Rattle.calls.specs.Core.{Stores, State, P}
 use Rattle.calls.specs.Contents.{lineOk, rangesOk, dueOk, markOk, formsOk, sequenceOk, coreOk}
-use Rattle.bytes.specs.State.{printerOf, readable}
+use Rattle.bytes.specs.State.{readable, coreAt}
 
 -- Bytes that stand for a printer, with contents that one can have.
 unfoldable pub soundBytes : List ℕ → Stores → Bool
-soundBytes s m = readable s && coreOk (record { state = printerOf s .state; stores = m })
+soundBytes s m = readable s && coreOk (coreAt s m)
 
 -- The clauses that are about the state, and the same by what the code looks at together (proofs/Parts): the small fields, the overlay sequence,
 -- the FCB with the current line.

@@ -9,15 +9,16 @@ use Rattle.seq.specs.Words.{all, every}
 use Rattle.numbers.specs.declared.Sense.{Sense}
 use Rattle.form.specs.Form.{fcbSize}
 use Rattle.copies.specs.Copies.{pairSize}
+use Rattle.calls.specs.Core.{Stores, State, Core, World}
 use Rattle.actions.specs.declared.Printer.{Printer}
+use Rattle.actions.specs.Whole.{keptSize}
 
 abbrev pub stateSize : ℕ
 stateSize = 184
 
 -- Bytes 0 to 23: all but the two large arrays. A flag is 1 or 0.
-abbrev pub smallBytes : Printer → List ℕ
-smallBytes p =
-    let s = p .state in
+abbrev pub smallBytes : State → Sense → List ℕ
+smallBytes s q =
     s .fixed .length / 256
     ∷ s .fixed .length % 256
     ∷ getD (s .fixed .pitches) 0 0
@@ -37,41 +38,43 @@ smallBytes p =
     ∷ boolByte (s .sheet .written)
     ∷ boolByte (s .sheet .waiting)
     ∷ boolByte (s .sheet .due)
-    ∷ p .sense .b0
-    ∷ p .sense .b1
-    ∷ p .sense .b2
-    ∷ p .sense .b22
-    ∷ p .sense .b23
+    ∷ q .b0
+    ∷ q .b1
+    ∷ q .b2
+    ∷ q .b22
+    ∷ q .b23
     ∷ []
 
 -- All 184: then the overlay sequence's pairs, from 24 on, and the FCB's bytes, from 40 on.
-unfoldable pub bytesOf : Printer → List ℕ
-bytesOf p = smallBytes p ++ (p .state .copies .pairs ++ p .state .forms .fcb)
+unfoldable pub bytesOf : State → Sense → List ℕ
+bytesOf s q = smallBytes s q ++ (s .copies .pairs ++ s .forms .fcb)
 
--- The other way: the printer that bytes stand for, its two arrays given apart.
+-- The other way: the state and the sense that bytes stand for.
 abbrev pub byteAt : List ℕ → ℕ → ℕ
 byteAt s n = getD s n 0
 
 abbrev pub flagAt : List ℕ → ℕ → Bool
 flagAt s n = eqb (byteAt s n) 1
 
-abbrev pub printerWith : List ℕ → List ℕ → List ℕ → Printer
-printerWith s pairs fcb =
+unfoldable pub stateAt : List ℕ → State
+stateAt s =
     record {
-      state =
-          record {
-            fixed = record { length = byteAt s 0 * 256 + byteAt s 1; pitches = byteAt s 2 ∷ byteAt s 3 ∷ byteAt s 4 ∷ byteAt s 5 ∷ [] };
-            blocked = flagAt s 6;
-            forms = record { fcb = fcb; count = byteAt s 7 };
-            slots = record { loaded = flagAt s 8 ∷ flagAt s 9 ∷ flagAt s 10 ∷ flagAt s 11 ∷ []; selected = byteAt s 12 };
-            copies = record { pairs = pairs; count = byteAt s 13; reference = byteAt s 14 };
-            sheet = record { line = byteAt s 15; written = flagAt s 16; waiting = flagAt s 17; due = flagAt s 18 };
-          };
-      sense = record { b0 = byteAt s 19; b1 = byteAt s 20; b2 = byteAt s 21; b22 = byteAt s 22; b23 = byteAt s 23 };
+      fixed = record { length = byteAt s 0 * 256 + byteAt s 1; pitches = byteAt s 2 ∷ byteAt s 3 ∷ byteAt s 4 ∷ byteAt s 5 ∷ [] };
+      blocked = flagAt s 6;
+      forms = record { fcb = take fcbSize (drop 40 s); count = byteAt s 7 };
+      slots = record { loaded = flagAt s 8 ∷ flagAt s 9 ∷ flagAt s 10 ∷ flagAt s 11 ∷ []; selected = byteAt s 12 };
+      copies = record { pairs = take pairSize (drop 24 s); count = byteAt s 13; reference = byteAt s 14 };
+      sheet = record { line = byteAt s 15; written = flagAt s 16; waiting = flagAt s 17; due = flagAt s 18 };
     }
 
-unfoldable pub printerOf : List ℕ → Printer
-printerOf s = printerWith s (take pairSize (drop 24 s)) (take fcbSize (drop 40 s))
+unfoldable pub senseAt : List ℕ → Sense
+senseAt s = record { b0 = byteAt s 19; b1 = byteAt s 20; b2 = byteAt s 21; b22 = byteAt s 22; b23 = byteAt s 23 }
+
+abbrev pub coreAt : List ℕ → Stores → Core
+coreAt s m = record { state = stateAt s; stores = m }
+
+abbrev pub worldAt : List ℕ → Stores → World
+worldAt s m = record { core = coreAt s m; sense = senseAt s }
 
 -- Bytes that stand for a printer: as many as a state has, and each flag 0 or 1. Every other range is the printer's own to judge.
 abbrev pub flagPlaces : List ℕ
@@ -80,6 +83,19 @@ flagPlaces = 6 ∷ 8 ∷ 9 ∷ 10 ∷ 11 ∷ 16 ∷ 17 ∷ 18 ∷ []
 unfoldable pub readable : List ℕ → Bool
 readable s = every (eqb (length s) stateSize ∷ all (λ n. leb (byteAt s n) 1) flagPlaces ∷ [])
 
--- A state with another sense: bytes 19 to 23 replaced.
-abbrev pub withSense : List ℕ → Sense → List ℕ
-withSense s q = take 19 s ++ ((q .b0 ∷ q .b1 ∷ q .b2 ∷ q .b22 ∷ q .b23 ∷ []) ++ drop 5 (drop 19 s))
+-- The printer by value, which leaves its two arrays in these bytes.
+abbrev pub printerOf : List ℕ → Printer
+printerOf s =
+    record {
+      fixed = stateAt s .fixed;
+      blocked = stateAt s .blocked;
+      fcb = stateAt s .forms .count;
+      slots = stateAt s .slots;
+      pairs = stateAt s .copies .count;
+      reference = stateAt s .copies .reference;
+      sheet = stateAt s .sheet;
+      sense = senseAt s;
+    }
+
+abbrev pub keptAt : List ℕ → List ℕ
+keptAt s = take keptSize (drop 24 s)

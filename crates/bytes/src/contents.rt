@@ -10,7 +10,7 @@ ghost use lib.ListN.{length};
 ghost use Rattle.form.specs.Form.{formOk, formsInRange};
 ghost use Rattle.calls.specs.Core.{storesOf, sizesOk, laidOut};
 ghost use Rattle.calls.specs.Contents.{dueOk, markOk};
-ghost use Rattle.bytes.specs.State.{byteAt, printerOf};
+ghost use Rattle.bytes.specs.State.{byteAt, stateAt};
 ghost use Rattle.bytes.specs.Contents.{fieldsOk, copiesOk, formsLineOk, stateOk, soundBytes};
 
 // What a look at the lent stores finds: whether a printer can have them, and the form laid out if so.
@@ -52,7 +52,7 @@ fn fixed_ok(s: &[u8]) -> bool
 
 fn sheet_ok(s: &[u8]) -> bool
     requires { ⌜ length (now s) ≡ 184 ⌝ }
-    ensures { λ r. ⌜ r ≡ (dueOk (printerOf (now (s .entry)) .state .sheet) && markOk (printerOf (now (s .entry)) .state .sheet)) ⌝ }
+    ensures { λ r. ⌜ r ≡ (dueOk (stateAt (now (s .entry)) .sheet) && markOk (stateAt (now (s .entry)) .sheet)) ⌝ }
 {
     let waiting = s[17] == 1;
     ((s[18] != 1) | waiting) & !((s[16] == 1) & waiting)
@@ -60,7 +60,7 @@ fn sheet_ok(s: &[u8]) -> bool
 
 fn fields_ok(s: &[u8]) -> bool
     requires { ⌜ length (now s) ≡ 184 ⌝ }
-    ensures { λ r. ⌜ r ≡ fieldsOk (printerOf (now (s .entry)) .state) ⌝ }
+    ensures { λ r. ⌜ r ≡ fieldsOk (stateAt (now (s .entry))) ⌝ }
 {
     let fixed = fixed_ok(s);
     let sheet = sheet_ok(s);
@@ -69,7 +69,7 @@ fn fields_ok(s: &[u8]) -> bool
 
 fn copies_ok(s: &[u8]) -> bool
     requires { ⌜ length (now s) ≡ 184 ⌝ }
-    ensures { λ r. ⌜ r ≡ copiesOk (printerOf (now (s .entry)) .state) ⌝ }
+    ensures { λ r. ⌜ r ≡ copiesOk (stateAt (now (s .entry))) ⌝ }
 {
     let count = s[13];
     let range = copies::copies_in_range(&s[24..40], count, s[14]);
@@ -79,8 +79,8 @@ fn copies_ok(s: &[u8]) -> bool
 
 fn kept(s: &[u8]) -> Kept
     requires { ⌜ length (now s) ≡ 184 ⌝ }
-    ensures range { λ r. ⌜ r .range ≡ formsInRange (printerOf (now (s .entry)) .state .forms) ⌝ }
-    ensures layout { λ r. ⌜ r .layout ≡ laidOut (printerOf (now (s .entry)) .state) ⌝ }
+    ensures range { λ r. ⌜ r .range ≡ formsInRange (stateAt (now (s .entry)) .forms) ⌝ }
+    ensures layout { λ r. ⌜ r .layout ≡ laidOut (stateAt (now (s .entry))) ⌝ }
 {
     form::fcb::kept(state::pair(s[0], s[1]), &s[40..184], s[7])
 }
@@ -88,9 +88,9 @@ fn kept(s: &[u8]) -> Kept
 // The FCB is the state's own, looked at.
 fn forms_ok(s: &[u8], fcb: Kept) -> bool
     requires { ⌜ length (now s) ≡ 184 ⌝ }
-    requires { ⌜ fcb .range ≡ formsInRange (printerOf (now s) .state .forms) ⌝ }
-    requires { ⌜ fcb .layout ≡ laidOut (printerOf (now s) .state) ⌝ }
-    ensures { λ r. ⌜ r ≡ formsLineOk (printerOf (now (s .entry)) .state) ⌝ }
+    requires { ⌜ fcb .range ≡ formsInRange (stateAt (now s) .forms) ⌝ }
+    requires { ⌜ fcb .layout ≡ laidOut (stateAt (now s)) ⌝ }
+    ensures { λ r. ⌜ r ≡ formsLineOk (stateAt (now (s .entry))) ⌝ }
 {
     let line = s[15];
     let form = fcb.layout;
@@ -100,8 +100,8 @@ fn forms_ok(s: &[u8], fcb: Kept) -> bool
 
 fn look_at_state(s: &[u8]) -> Found
     requires { ⌜ length (now s) ≡ 184 ⌝ }
-    ensures sound { λ r. ⌜ r .sound ≡ stateOk (printerOf (now (s .entry)) .state) ⌝ }
-    ensures form { λ r. ⌜ (r .sound ≡ true → r .form ≡ laidOut (printerOf (now (s .entry)) .state)) ⌝ }
+    ensures sound { λ r. ⌜ r .sound ≡ stateOk (stateAt (now (s .entry))) ⌝ }
+    ensures form { λ r. ⌜ (r .sound ≡ true → r .form ≡ laidOut (stateAt (now (s .entry)))) ⌝ }
 {
     if !fields_ok(s) {
         return Found::NONE;
@@ -122,7 +122,7 @@ pub fn look(state: &[u8], legends: &[u8]) -> Found
     requires { ⌜ length (now legends) ≡ 8192 ⌝ }
     ensures sound { λ r. ⌜ ((p t : List ℕ) → let m = storesOf p (now (legends .entry)) t in
         sizesOk m ≡ true → r .sound ≡ soundBytes (now (state .entry)) m) ⌝ }
-    ensures form { λ r. ⌜ (r .sound ≡ true → r .form ≡ laidOut (printerOf (now (state .entry)) .state)) ⌝ }
+    ensures form { λ r. ⌜ (r .sound ≡ true → r .form ≡ laidOut (stateAt (now (state .entry)))) ⌝ }
 {
     if !state::is_readable(state) {
         return Found::NONE;

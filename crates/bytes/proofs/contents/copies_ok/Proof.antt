@@ -1,12 +1,12 @@
 -- The range of its fields, and its check.
-use Rattle.bytes.specs.State.{printerOf}
+use Rattle.bytes.specs.State.{stateAt}
 use Rattle.bytes.specs.Contents.{copiesOk}
 use borrow.Author.Needs.{needs}
 use Rattle.bytes.proofs.contents.copies_ok.Statement.{statement}
 use Rattle.bytes.proofs.contents.copies_ok.Tie as tie
 
 returns : tie.Need-returns
-unfolding copiesOk printerOf
+unfolding copiesOk stateAt
 returns c = rw (c .before .before .copies-in-range .ensures, c .sequence-ok .ensures)
 
 pub copies-ok-spec : {M : Type 1} → statement M

@@ -5,7 +5,7 @@ use Rattle.seq.specs.Words.{every}
 use Rattle.form.specs.Form.{layoutOf, fcbCheck}
 use Rattle.calls.specs.Core.{linesNow}
 use Rattle.calls.specs.Contents.{lineOk}
-use Rattle.bytes.specs.State.{printerOf}
+use Rattle.bytes.specs.State.{stateAt}
 use Rattle.bytes.specs.Contents.{formsLineOk}
 use borrow.Author.Needs.{needs}
 use Rattle.bytes.proofs.contents.forms_ok.Statement.{statement}
@@ -15,7 +15,7 @@ cast-result : tie.Need-cast-result
 cast-result c = omega (arith, c .before .before .before .before .before .before .shared-slice-known .given 15)
 
 returns : tie.Need-returns
-unfolding formsLineOk lineOk every linesNow layoutOf fcbCheck printerOf
+unfolding formsLineOk lineOk every linesNow layoutOf fcbCheck stateAt
 returns c =
     let l = c .before .before .before in
     let pre = l .before .before .before .before .before .before .before .pre in

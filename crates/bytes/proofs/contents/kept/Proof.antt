@@ -1,12 +1,12 @@
 -- Form length, FCB and count from their places.
 use mathlib.Core.Path.{_∙_}
-use Rattle.bytes.specs.State.{printerOf}
+use Rattle.bytes.specs.State.{stateAt}
 use borrow.Author.Needs.{needs}
 use Rattle.bytes.proofs.contents.kept.Statement.{statement}
 use Rattle.bytes.proofs.contents.kept.Tie as tie
 
 returns : tie.Need-returns
-unfolding printerOf
+unfolding stateAt
 returns c = (c .kept .ensures .0, c .kept .ensures .1 ∙ rw (c .before .before .before .pair .ensures))
 
 pub kept-spec : {M : Type 1} → statement M

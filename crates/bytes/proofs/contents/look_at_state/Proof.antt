@@ -2,17 +2,17 @@
 use mathlib.Core.Path.{_≡_, sym, _∙_}
 use mathlib.Core.Bool.{true, false≢true}
 use borrow.Author.Tests.{not-true, not-false}
-use Rattle.bytes.specs.State.{printerOf}
+use Rattle.bytes.specs.State.{stateAt}
 use Rattle.bytes.specs.Contents.{fieldsOk, copiesOk}
 use Rattle.bytes.proofs.Parts.{state-parts}
 use borrow.Author.Needs.{needs}
 use Rattle.bytes.proofs.contents.look_at_state.Statement.{statement}
 use Rattle.bytes.proofs.contents.look_at_state.Tie as tie
 
-fields : (c : tie.Else1) → fieldsOk (printerOf (c .before .before .before .args .s .now) .state) ≡ true
+fields : (c : tie.Else1) → fieldsOk (stateAt (c .before .before .before .args .s .now)) ≡ true
 fields c = sym (c .before .fields-ok .ensures) ∙ not-false _ (c .if1 .left)
 
-copies : (c : tie.Else2) → copiesOk (printerOf (c .before .before .before .before .before .args .s .now) .state) ≡ true
+copies : (c : tie.Else2) → copiesOk (stateAt (c .before .before .before .before .before .args .s .now)) ≡ true
 copies c = sym (c .before .copies-ok .ensures) ∙ not-false _ (c .if2 .left)
 
 returns : tie.Need-returns

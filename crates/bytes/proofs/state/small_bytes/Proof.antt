@@ -26,4 +26,4 @@ small-bytes-spec =
     (λ c. search needs)
     (λ c. search needs)
     (λ c. search needs)
-    (λ c. refl))
+    (λ c. λ k. refl))
