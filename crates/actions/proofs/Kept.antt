@@ -24,8 +24,7 @@ unfolding pairsIn fcbIn
 fcb-laid k r {new = new} l h e =
     let front = length-take-le pairSize k (omega (arith, l)) in
     let n = laid fcbSize (fcbIn k) r (length-take-le fcbSize (drop pairSize k) (simp length-drop (omega (arith, l)))) h e in
-    let rest = new ++ drop fcbSize (drop pairSize k) in
-    (
+    let rest = new ++ drop fcbSize (drop pairSize k) in (
       take-at (take pairSize k) rest pairSize front,
       ap (take fcbSize) (drop-at (take pairSize k) rest pairSize front) ∙ take-at new (drop fcbSize (drop pairSize k)) fcbSize (n .1) ∙ n .0,
     )

@@ -132,7 +132,13 @@ impl Printer {
         requires { ⌜ length (now kept) ≡ 160 ⌝ }
         ensures { λ r. ⌜ r ≡ moveOf (stateOf self (now (kept .entry))) motion ⌝ }
     {
-        movement::move_form(&kept[16..160], form.top, form.lines, self.sheet.line, motion)
+        movement::move_form(
+            &kept[16..160],
+            form.top,
+            form.lines,
+            self.sheet.line,
+            motion,
+        )
     }
 
     // The immediate commands.

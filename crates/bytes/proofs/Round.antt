@@ -147,10 +147,11 @@ unfolding stateAt pairsIn fcbIn
 whole s e = rw (take-all keptSize (drop 24 s) (simp length-drop (omega arith)), drop-drop pairSize 24 s)
 
 -- The small bytes of a printer over the front of s, whose arrays have become k: the bytes of both.
-pub laid : (s k : List ℕ) (p : Printer) → length s ≡ stateSize → length k ≡ keptSize
+pub laid : (s k : List ℕ) (p : Printer) → length s ≡ stateSize → length k ≡ length (keptAt s)
     → smallBytes (stateOf p k) (p .sense) ++ drop 24 (take 24 s ++ (k ++ drop keptSize (drop 24 s))) ≡ bytesOf (stateOf p k) (p .sense)
 unfolding bytesOf pairsIn fcbIn
-laid s k p e h =
+laid s k p e l =
+    let h : length k ≡ keptSize = l ∙ length-take-le keptSize (drop 24 s) (simp length-drop (omega arith)) in
     ap (λ (l : List ℕ). smallBytes (stateOf p k) (p .sense) ++ l)
     (rw (
       drop-at (take 24 s) (k ++ drop keptSize (drop 24 s)) 24 (length-take-le 24 s (omega arith)),

@@ -9,41 +9,34 @@ use Rattle.seq.specs.Words.{when, firstOr, zeros}
 use Rattle.seq.proofs.Laws.{and-left, and-right}
 use Rattle.numbers.specs.declared.Sense.{Sense}
 use Rattle.numbers.specs.declared.Refusal.the-variants.{Accepted, NoPage, BadIndex, TooShort, BadStore}
-use Rattle.numbers.specs.Numbers.{rowOf, isAccepted, only, senseAfter}
-use Rattle.calls.specs.Core.{State}
-use Rattle.calls.specs.Core.{Stores, World, sizesOk}
+use Rattle.numbers.specs.Numbers.{rowOf, only, senseAfter}
+use Rattle.form.specs.declared.Layout.{Layout}
+use Rattle.calls.specs.Core.{Stores, State, World, sizesOk, laidOut}
 use Rattle.calls.specs.Contents.{coreOk}
 use Rattle.calls.specs.Effects.{Effect, refused}
 use Rattle.calls.specs.Calls.{Call, compose, doCompose, perform, lent, refusalOf, Outcome, step}
 use Rattle.calls.specs.Start.{startOutcome, noState, noPrinter}
-use Rattle.calls.proofs.Refused.{by-outcome, nine, refused-step}
-use Rattle.calls.proofs.Answers.{names}
+use Rattle.calls.proofs.Refused.{by-outcome, nine}
 use Rattle.actions.specs.declared.Printer.{Printer}
 use Rattle.actions.specs.declared.Step.{Step}
-use Rattle.actions.specs.Whole.{coreOf, worldOf, outcome}
-use Rattle.bytes.specs.State.{stateSize, bytesOf, byteAt, printerOf, readable, withSense}
+use Rattle.actions.specs.Whole.{lentWith, stateOf, coreOf, worldOf, outcome}
+use Rattle.bytes.specs.State.{stateSize, bytesOf, byteAt, stateAt, coreAt, worldAt, printerOf, keptAt, readable}
 use Rattle.bytes.specs.Contents.{soundBytes}
 use Rattle.bytes.specs.Packed.{packed}
-use Rattle.bytes.proofs.Round.{back, back-sense, readable-size}
+use Rattle.bytes.proofs.Round.{back, whole, readable-size}
 use Rattle.bytes.proofs.Parts.{sound-parts}
-use Rattle.trestlepip.specs.Face.{printerIn, shown, unread, called, callBytes, startBytes}
+use Rattle.trestlepip.specs.Face.{bytesIn, shown, unread, called, callBytes, startBytes}
 
 -- What a call did, as the host finds it: its answer packed, its printer's bytes.
-shown-so : {r : Step} {answer : ℕ} {buffer bytes : List ℕ} {m : Stores} {o : Outcome}
-    → outcome r buffer m ≡ o → answer ≡ packed (r .answer) → bytes ≡ bytesOf (r .printer) → called answer buffer bytes m ≡ shown o
-shown-so e a b = rw (a, b) (ap shown e)
+shown-so : {r : Step} {answer : ℕ} {buffer bytes : List ℕ} (k : List ℕ) {m : Stores} {o : Outcome} → outcome r buffer (lentWith k m) ≡ o
+    → answer ≡ packed (r .answer) → bytes ≡ bytesIn (worldOf (r .printer) (lentWith k m)) → called answer buffer bytes m ≡ shown o
+shown-so k e a b = rw (a, b) (ap shown e)
 
 module _ (s : List ℕ) (m : Stores) (c : Call) where
-  pub read-so : {p : Printer} {r : Step} {answer : ℕ} {buffer bytes : List ℕ} {m′ : Stores} → readable s ≡ true → p ≡ printerOf s
-      → outcome r buffer m′ ≡ step (worldOf p m) c → answer ≡ packed (r .answer) → bytes ≡ bytesOf (r .printer)
-      → called answer buffer bytes m′ ≡ callBytes s m c
-  unfolding callBytes
-  read-so e d o a b = rw e (shown-so (o ∙ ap (λ (p : Printer). step (worldOf p m) c) d) a b)
-
   -- bytes that no printer has, or stores that none has: 9 from every call, and nothing is written
-  nine-read : (t : Bool) → byteAt s 1 < 256 → readable s ≡ t → (t && coreOk (coreOf (printerOf s) m)) ≡ false
-      → cond t (shown (step (worldOf (printerOf s) m) c)) (unread (lent c) s m) ≡ unread (lent c) s m
-  nine-read true low e n = ap shown (nine (worldOf (printerOf s) m) c n) ∙ ap (λ (l : List ℕ). unread (lent c) l m) (back s low e)
+  nine-read : (t : Bool) → byteAt s 1 < 256 → readable s ≡ t → (t && coreOk (coreAt s m)) ≡ false
+      → cond t (shown (step (worldAt s m) c)) (unread (lent c) s m) ≡ unread (lent c) s m
+  nine-read true low e n = ap shown (nine (worldAt s m) c n) ∙ ap (λ (l : List ℕ). unread (lent c) l m) (back s low e)
   nine-read false low e n = refl
 
   pub nine-seen : byteAt s 1 < 256 → soundBytes s m ≡ false → callBytes s m c ≡ unread (lent c) s m
@@ -61,39 +54,51 @@ no-sizes s m e = rw (sound-parts s m, e)
 -- Sound bytes stand for a printer, and are as many as a state has; its contents are good.
 pub sound-read : (s : List ℕ) (m : Stores) → soundBytes s m ≡ true → readable s ≡ true
 unfolding soundBytes
-sound-read s m e = and-left (readable s) (coreOk (coreOf (printerOf s) m)) e
+sound-read s m e = and-left (readable s) (coreOk (coreAt s m)) e
 
-pub sound-good : (s : List ℕ) (m : Stores) → soundBytes s m ≡ true → coreOk (coreOf (printerOf s) m) ≡ true
+pub sound-good : (s : List ℕ) (m : Stores) → soundBytes s m ≡ true → coreOk (coreAt s m) ≡ true
 unfolding soundBytes
-sound-good s m e = and-right (readable s) (coreOk (coreOf (printerOf s) m)) e
+sound-good s m e = and-right (readable s) (coreOk (coreAt s m)) e
 
 pub sound-size : (s : List ℕ) (m : Stores) → soundBytes s m ≡ true → length s ≡ stateSize
 sound-size s m e = readable-size s (sound-read s m e)
 
+-- Sound bytes, and the printer by value that they stand for, with its arrays where they lie.
+module _ (s : List ℕ) (m : Stores) {p : Printer} (e : soundBytes s m ≡ true) (d : p ≡ printerOf s) where
+  state-so : stateOf p (keptAt s) ≡ stateAt s
+  state-so = ap (λ (q : Printer). stateOf q (keptAt s)) d ∙ whole s (sound-size s m e)
+
+  -- what the call on it asks for
+  pub form-so : {w : Layout} → w ≡ laidOut (stateAt s) → w ≡ laidOut (stateOf p (keptAt s))
+  form-so h = h ∙ ap laidOut (sym state-so)
+
+  pub good-so : coreOk (coreOf p (lentWith (keptAt s) m)) ≡ true
+  good-so = ap (λ (k : State). coreOk (record { state = k; stores = m })) state-so ∙ sound-good s m e
+
+  -- its own bytes
+  pub bytes-so : byteAt s 1 < 256 → bytesIn (worldOf p (lentWith (keptAt s) m)) ≡ s
+  bytes-so low = (λ i. bytesOf (state-so i) (d i .sense)) ∙ back s low (sound-read s m e)
+
+  -- and what it comes to
+  pub read-so : {r : Step} {answer : ℕ} {buffer bytes : List ℕ} (c : Call) (k : List ℕ) {m′ : Stores}
+      → outcome r buffer (lentWith k m′) ≡ step (worldOf p (lentWith (keptAt s) m)) c → answer ≡ packed (r .answer)
+      → bytes ≡ bytesIn (worldOf (r .printer) (lentWith k m′)) → called answer buffer bytes m′ ≡ callBytes s m c
+  unfolding callBytes
+  read-so c k o a b =
+      rw (sound-read s m e)
+      (shown-so k (o ∙ (λ i. step (record { core = record { state = state-so i; stores = m }; sense = d i .sense }) c)) a b)
+
 -- Start's.
 module _ (form : ℕ) (pitches s : List ℕ) (m : Stores) where
-  pub begun-so : {r : Step} {answer : ℕ} {bytes : List ℕ} {m′ : Stores} → length s ≡ stateSize → outcome r [] m′ ≡ startOutcome form pitches m
-      → answer ≡ packed (r .answer) → bytes ≡ bytesOf (r .printer) → called answer [] bytes m′ ≡ startBytes form pitches s m
+  pub begun-so : {r : Step} {answer : ℕ} {bytes : List ℕ} (k : List ℕ) {m′ : Stores} → length s ≡ stateSize
+      → outcome r [] (lentWith k m′) ≡ startOutcome form pitches m → answer ≡ packed (r .answer)
+      → bytes ≡ bytesIn (worldOf (r .printer) (lentWith k m′)) → called answer [] bytes m′ ≡ startBytes form pitches s m
   unfolding startBytes
-  begun-so e o a b = rw (ap (λ (n : ℕ). eqb n stateSize) e) (shown-so o a b)
+  begun-so k e o a b = rw (ap (λ (n : ℕ). eqb n stateSize) e) (shown-so k o a b)
 
   pub no-room-so : {answer : ℕ} → eqb (length s) stateSize ≡ false → answer ≡ packed (only BadStore 0) → called answer [] s m ≡ startBytes form pitches s m
   unfolding startBytes
   no-room-so e a = rw (e, a)
-
--- A refused call leaves all but the sense, so that the state's other bytes stay.
-module _ (p : Printer) (m : Stores) (c : Call) {r : Step} {buffer : List ℕ} {m′ : Stores} (o : outcome r buffer m′ ≡ step (worldOf p m) c)
-    (e : isAccepted (r .answer .refusal) ≡ false) where
-  refused-state : r .printer .state ≡ p .state
-  refused-state =
-      let w = worldOf p m in
-      ap (λ (k : Outcome). k .world .core .state)
-      (o ∙ refused-step w c (ap isAccepted (sym (ap (λ (k : Outcome). k .answer .refusal) o ∙ names w c)) ∙ e))
-
-  pub sense-so : (s : List ℕ) → byteAt s 1 < 256 → readable s ≡ true → p ≡ printerOf s → withSense s (r .printer .sense) ≡ bytesOf (r .printer)
-  sense-so s low h d =
-      back-sense s (r .printer .sense) low h
-      ∙ ap (λ (st : State). bytesOf (record { state = st; sense = r .printer .sense })) (sym (refused-state ∙ ap (λ (q : Printer). q .state) d))
 
 -- Compose leaves the printer as it was: none of its refusals touches the sense.
 compose-sense : (n : ℕ) (s : Sense) (a b c d : Bool)
@@ -111,11 +116,12 @@ compose-keeps w n out =
     by-outcome (λ (e : Effect). record { core = e .core; sense = senseAfter (w .sense) (e .sense) } ≡ w) (w .core) (compose n out) (λ a. refl)
     (λ a. ap (λ (s : Sense). record { core = w .core; sense = s }) (compose-sense 0 (w .sense) _ _ _ _))
 
-pub compose-printer : {p : Printer} {r : Step} {buffer : List ℕ} {m : Stores} (n : ℕ) (out : List ℕ)
-    → outcome r buffer m ≡ step (worldOf p m) (compose n out) → r .printer ≡ p
-compose-printer {p = p} {m = m} n out e = ap (λ (o : Outcome). printerIn (o .world)) e ∙ ap printerIn (compose-keeps (worldOf p m) n out)
+pub compose-world : {p : Printer} {r : Step} {buffer : List ℕ} (k : List ℕ) {m : Stores} (n : ℕ) (out : List ℕ)
+    → outcome r buffer (lentWith k m) ≡ step (worldOf p (lentWith k m)) (compose n out)
+    → worldOf (r .printer) (lentWith k m) ≡ worldOf p (lentWith k m)
+compose-world {p = p} k {m = m} n out e = ap (λ (o : Outcome). o .world) e ∙ compose-keeps (worldOf p (lentWith k m)) n out
 
 -- A refused Start hands back bytes that are all zero.
-pub zeros-no : (m : Stores) → bytesOf (printerIn (noPrinter m)) ≡ zeros stateSize
+pub zeros-no : (m : Stores) → bytesIn (noPrinter m) ≡ zeros stateSize
 unfolding bytesOf noPrinter noState
 zeros-no m = refl

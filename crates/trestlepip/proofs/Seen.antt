@@ -23,10 +23,9 @@ use Rattle.calls.proofs.Refused.{refused-step, refused-start, zeros-nine}
 use Rattle.calls.proofs.Answers.{names}
 use Rattle.calls.proofs.Closed.{no-9, good-calls, started-so, start-good, never-9}
 use Rattle.calls.proofs.Demand3.{after-alike, demand-3}
-use Rattle.actions.specs.Whole.{coreOf, worldOf}
-use Rattle.bytes.specs.State.{stateSize, bytesOf, byteAt, printerOf, readable}
+use Rattle.bytes.specs.State.{stateSize, bytesOf, byteAt, coreAt, worldAt, readable}
 use Rattle.bytes.specs.Packed.{packed}
-use Rattle.trestlepip.specs.Face.{Called, Held, held, heldOf, callOn, bytesAfter, heldIn, called, printerIn, shown, unread, callBytes, startBytes}
+use Rattle.trestlepip.specs.Face.{Called, Held, held, heldOf, callOn, bytesAfter, heldIn, called, shown, unread, callBytes, startBytes}
 use Rattle.bytes.proofs.Round.{Sized, sized, back}
 use Rattle.bytes.proofs.Fields.{field, number-back}
 use Rattle.trestlepip.proofs.Calls.{zeros-no}
@@ -50,38 +49,38 @@ pub record Untouched (h : Held) (buffer : List ℕ) (k : Called) : Type 0 where
 -- Whatever bytes s and stores m a host lends. Of s being bytes, all that counts is that of the form length's lower one.
 module _ (s : List ℕ) (m : Stores) (low : byteAt s 1 < 256) where
   -- bytes that a printer can have: the calls after them are those of that printer
-  pub follow-bytes : (cs : List Call) → readable s ≡ true → Good (coreOf (printerOf s) m)
-      → bytesAfter (held s m) cs ≡ heldIn (worldAfter (worldOf (printerOf s) m) cs)
+  pub follow-bytes : (cs : List Call) → readable s ≡ true → Good (coreAt s m)
+      → bytesAfter (held s m) cs ≡ heldIn (worldAfter (worldAt s m) cs)
   follow-bytes cs e g =
-      ap (λ (l : List ℕ). bytesAfter (held l m) cs) (sym (back s low e)) ∙ follow (worldOf (printerOf s) m) cs g (sized s e)
+      ap (λ (l : List ℕ). bytesAfter (held l m) cs) (sym (back s low e)) ∙ follow (worldAt s m) cs g (sized s e)
 
   -- 9 to none but those that no printer has (`nine-seen`, Calls)
-  pub nine-only : (c : Call) → readable s ≡ true → coreOk (coreOf (printerOf s) m) ≡ true → eqb (numberIn (callBytes s m c)) 9 ≡ false
+  pub nine-only : (c : Call) → readable s ≡ true → coreOk (coreAt s m) ≡ true → eqb (numberIn (callBytes s m c)) 9 ≡ false
   unfolding callBytes
   nine-only c e n =
-      let w = worldOf (printerOf s) m in
+      let w = worldAt s m in
       rw (e, number-back (step w c .answer), names w c) (no-9 (w .core) c n)
 
   -- any number but 0: a refused call writes nothing but the sense
-  refused-step-seen : (c : Call) → readable s ≡ true → isAccepted (refusalOf (coreOf (printerOf s) m) c) ≡ false
-      → Untouched (held s m) (lent c) (shown (step (worldOf (printerOf s) m) c))
+  refused-step-seen : (c : Call) → readable s ≡ true → isAccepted (refusalOf (coreAt s m) c) ≡ false
+      → Untouched (held s m) (lent c) (shown (step (worldAt s m) c))
   unfolding bytesOf
   refused-step-seen c r e =
-      rw (refused-step (worldOf (printerOf s) m) c e)
+      rw (refused-step (worldAt s m) c e)
       (record { buffers = refl; states = ap (λ (l : List ℕ). butSense (held l m)) (back s low r); stores = refl })
 
-  refused-read : (t u : Bool) (c : Call) → readable s ≡ t → isAccepted (refusalOf (coreOf (printerOf s) m) c) ≡ u
-      → (let k = cond t (shown (step (worldOf (printerOf s) m) c)) (unread (lent c) s m) in (numberIn k ≡ 0 → ⊥) → Untouched (held s m) (lent c) k)
+  refused-read : (t u : Bool) (c : Call) → readable s ≡ t → isAccepted (refusalOf (coreAt s m) c) ≡ u
+      → (let k = cond t (shown (step (worldAt s m) c)) (unread (lent c) s m) in (numberIn k ≡ 0 → ⊥) → Untouched (held s m) (lent c) k)
   unfolding rowOf
   refused-read true true c r e n =
-      let w = worldOf (printerOf s) m in
+      let w = worldAt s m in
       absurd (n (number-back (step w c .answer) ∙ ap numberOf (names w c ∙ accepted-is _ e)))
   refused-read true false c r e n = refused-step-seen c r e
   refused-read false u c r e n = record { buffers = refl; states = refl; stores = refl }
 
   pub refused-seen : (c : Call) → (numberIn (callBytes s m c) ≡ 0 → ⊥) → Untouched (held s m) (lent c) (callBytes s m c)
   unfolding callBytes
-  refused-seen c n = refused-read (readable s) (isAccepted (refusalOf (coreOf (printerOf s) m) c)) c refl refl n
+  refused-seen c n = refused-read (readable s) (isAccepted (refusalOf (coreAt s m) c)) c refl refl n
 
 -- A Start over bytes is accepted where the state has its room and the Start is accepted.
 start-accepted : (len : ℕ) (ps s : List ℕ) (m : Stores) → numberIn (startBytes len ps s m) ≡ 0
@@ -110,7 +109,7 @@ module _ (len : ℕ) (ps s : List ℕ) (m : Stores) (accepted : numberIn (startB
 
   -- four pitches are what trestlepip_start passes
   module _ (four : length ps ≡ 4) where
-    pub began-sized : Sized (printerIn (startOutcome len ps m .world))
+    pub began-sized : Sized (startOutcome len ps m .world .core .state)
     unfolding startWorld fresh
     began-sized = rw began-world (reset-sized (record { length = len; pitches = ps }) false (startable len ps m taken-so .form) four)
 
@@ -134,7 +133,7 @@ unfolding startBytes noPrinter
 start-refused len ps s m h e =
     rw (eq-eqb _ _ h, refused-start len ps m e) (ap (λ (l : List ℕ). called (packed (only (startRefusal len ps m) 0)) [] l m) (zeros-no m))
 
-zeros-sized : (m : Stores) → Sized (printerIn (noPrinter m))
+zeros-sized : (m : Stores) → Sized (noPrinter m .core .state)
 unfolding noPrinter noState
 zeros-sized m = record { pitches = refl; loaded = refl; pairs = refl; fcb = refl }
 
@@ -153,7 +152,7 @@ pub record AlikeSeen (a b : Held) : Type 0 where
   pub states : (zs : List Call) → butSense (bytesAfter a zs) ≡ butSense (bytesAfter b zs)
   pub stores : (zs : List Call) → bytesAfter a zs .stores ≡ bytesAfter b zs .stores
 
-module _ (v w : World) (g : Good (v .core)) (z : Sized (printerIn v)) (e : v .core ≡ w .core)
+module _ (v w : World) (g : Good (v .core)) (z : Sized (v .core .state)) (e : v .core ≡ w .core)
     (printed : (zs : List Call) (n : ℕ) (out : List ℕ) → step (worldAfter v zs) (compose n out) .buffer ≡ step (worldAfter w zs) (compose n out) .buffer) where
   -- what the one gives and what the other gives, of what follows
   both : {A : Type 0} (f : Called → A) (zs : List Call) (c : Call) → f (shown (step (worldAfter v zs) c)) ≡ f (shown (step (worldAfter w zs) c))

@@ -27,10 +27,10 @@ use Rattle.calls.specs.Calls.{Call, command, compose, release, checkOf, refusal
 use Rattle.calls.proofs.Good.{FixedGood, Good}
 use Rattle.calls.proofs.Accepted.{Taken, taken}
 use Rattle.calls.proofs.Refused.{by-outcome}
-use Rattle.bytes.proofs.Round.{SizedState}
+use Rattle.bytes.proofs.Round.{Sized}
 
 -- A reset sets them anew.
-pub reset-sized : (f : Fixed) (blocked : Bool) → FixedGood f → length (f .pitches) ≡ 4 → SizedState (resetState f blocked)
+pub reset-sized : (f : Fixed) (blocked : Bool) → FixedGood f → length (f .pitches) ≡ 4 → Sized (resetState f blocked)
 unfolding resetState formsOf startSlots startCopies
 reset-sized f blocked e h =
     let l = form-listed (f .length) (f .pitches) e in
@@ -43,7 +43,7 @@ reset-sized f blocked e h =
 
 -- what a load takes fits its array
 load-sized : (k : Core) (l : Load) (r : List ℕ) → FixedGood (k .state .fixed) → loadCheck (k .state .fixed .length) l r ≡ Sound
-    → SizedState (k .state) → SizedState (loaded k l r .state)
+    → Sized (k .state) → Sized (loaded k l r .state)
 unfolding loadCheck loaded formsOf slotLoaded withSequence withReference
 load-sized k Fcb r g e z =
     record {
@@ -59,13 +59,13 @@ load-sized k OverlaySequence r g e z =
 load-sized k CopyNumber r g e z = z
 
 -- the other commands leave all four, but for the reset
-completing-sized : (k k′ : Core) (due : Bool) → SizedState (k .state) → SizedState (k′ .state) → SizedState (completing k due k′ .core .state)
+completing-sized : (k k′ : Core) (due : Bool) → Sized (k .state) → Sized (k′ .state) → Sized (completing k due k′ .core .state)
 unfolding completing done
 completing-sized k k′ due z z′ =
-    cond-has (λ (e : Effect). SizedState (e .core .state)) (started (k .state .sheet)) (λ t. z) (λ t. z′)
+    cond-has (λ (e : Effect). Sized (e .core .state)) (started (k .state .sheet)) (λ t. z) (λ t. z′)
 
 command-sized : (k : Core) (c : Command) (r : List ℕ) {reply : List ℕ} → Taken k c r reply → FixedGood (k .state .fixed)
-    → SizedState (k .state) → SizedState (doCommand k c r .core .state)
+    → Sized (k .state) → Sized (doCommand k c r .core .state)
 unfolding doCommand doControl doWrite doMove doLoad done written slotSelected reset checkOf refused
 command-sized k (Write m) r t g z = z
 command-sized k (Move m) r t g z = z
@@ -81,19 +81,19 @@ command-sized k (Loads l) r t g z = load-sized k l r g (t .sane) z
 command-sized k Unlisted r t g z = z
 
 -- Release, every accepted call, and every call
-released-sized : (k : Core) → FixedGood (k .state .fixed) → SizedState (k .state) → SizedState (released k .state)
+released-sized : (k : Core) → FixedGood (k .state .fixed) → Sized (k .state) → Sized (released k .state)
 unfolding released emptied reset
 released-sized k g z =
-    cond-has (λ (x : Core). SizedState (x .state)) (k .state .sheet .due)
+    cond-has (λ (x : Core). Sized (x .state)) (k .state .sheet .due)
     (λ t. reset-sized (k .state .fixed) (k .state .blocked) g (z .pitches)) (λ t. z)
 
 perform-sized : (k : Core) (c : Call) → isAccepted (refusalOf k c) ≡ true → FixedGood (k .state .fixed)
-    → SizedState (k .state) → SizedState (perform k c .core .state)
+    → Sized (k .state) → Sized (perform k c .core .state)
 unfolding perform doCompose doRelease
 perform-sized k (command b r reply) e g z = command-sized k (decode b) r (taken k b r reply e) g z
 perform-sized k (compose n out) e g z = z
 perform-sized k release e g z = released-sized k g z
 
-pub sized-call : (k : Core) (c : Call) → Good k → SizedState (k .state) → SizedState (effect k c .core .state)
+pub sized-call : (k : Core) (c : Call) → Good k → Sized (k .state) → Sized (effect k c .core .state)
 unfolding refused
-sized-call k c g z = by-outcome (λ (e : Effect). SizedState (e .core .state)) k c (λ e. perform-sized k c e (g .fixed) z) (λ e. z)
+sized-call k c g z = by-outcome (λ (e : Effect). Sized (e .core .state)) k c (λ e. perform-sized k c e (g .fixed) z) (λ e. z)

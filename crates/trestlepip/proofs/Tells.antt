@@ -37,8 +37,7 @@ use Rattle.calls.proofs.Good.{good}
 use Rattle.calls.proofs.Accepted.{taken, composable}
 use Rattle.calls.proofs.Refused.{by-outcome}
 use Rattle.calls.proofs.Answers.{Shape, sets, quiet, shape}
-use Rattle.actions.specs.Whole.{worldOf}
-use Rattle.bytes.specs.State.{stateSize, byteAt, printerOf, readable}
+use Rattle.bytes.specs.State.{stateSize, byteAt, stateAt, worldAt, readable}
 use Rattle.bytes.specs.Packed.{packed}
 use Rattle.bytes.proofs.Fields.{Fits, Unpacked, bit-most, small, fields, only-fits}
 use Rattle.trestlepip.specs.Face.{shown, unread, callBytes, startBytes}
@@ -146,9 +145,9 @@ tells true o buffer s m h = (refl, fields (o .answer) h)
 tells false o buffer s m h = (refl, fields (only BadStore 0) (only-fits BadStore 0 (lit≤ tt)))
 
 pub call-tells : (s : List ℕ) (m : Stores) (c : Call) → byteAt s 14 ≤ 255
-    → Tells (callBytes s m c .answer) (cond (readable s) (step (worldOf (printerOf s) m) c .answer) (only BadStore 0))
-unfolding callBytes printerOf
-call-tells s m c h = tells (readable s) (step (worldOf (printerOf s) m) c) (lent c) s m (step-fits (worldOf (printerOf s) m) c h)
+    → Tells (callBytes s m c .answer) (cond (readable s) (step (worldAt s m) c .answer) (only BadStore 0))
+unfolding callBytes stateAt
+call-tells s m c h = tells (readable s) (step (worldAt s m) c) (lent c) s m (step-fits (worldAt s m) c h)
 
 pub start-tells : (len : ℕ) (ps s : List ℕ) (m : Stores)
     → Tells (startBytes len ps s m .answer) (cond (eqb (length s) stateSize) (startOutcome len ps m .answer) (only BadStore 0))

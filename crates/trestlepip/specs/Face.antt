@@ -9,9 +9,7 @@ use Rattle.numbers.specs.Numbers.{only}
 use Rattle.calls.specs.Core.{Stores, World}
 use Rattle.calls.specs.Calls.{Call, Outcome, lent, step}
 use Rattle.calls.specs.Start.{startOutcome}
-use Rattle.actions.specs.declared.Printer.{Printer}
-use Rattle.actions.specs.Whole.{worldOf}
-use Rattle.bytes.specs.State.{stateSize, bytesOf, printerOf, readable}
+use Rattle.bytes.specs.State.{stateSize, bytesOf, worldAt, readable}
 use Rattle.bytes.specs.Packed.{packed}
 
 -- All that a call hands back and leaves: its packed answer, its buffer, the state's bytes and the stores.
@@ -25,11 +23,11 @@ abbrev pub called : ℕ → List ℕ → List ℕ → Stores → Called
 called answer buffer state m = record { answer = answer; buffer = buffer; state = state; stores = m }
 
 -- An outcome as the host finds it.
-abbrev pub printerIn : World → Printer
-printerIn w = record { state = w .core .state; sense = w .sense }
+abbrev pub bytesIn : World → List ℕ
+bytesIn w = bytesOf (w .core .state) (w .sense)
 
 abbrev pub shown : Outcome → Called
-shown o = called (packed (o .answer)) (o .buffer) (bytesOf (printerIn (o .world))) (o .world .core .stores)
+shown o = called (packed (o .answer)) (o .buffer) (bytesIn (o .world)) (o .world .core .stores)
 
 -- Numbers, 9: bytes that stand for no printer get it, and nothing is written.
 abbrev pub unread : List ℕ → List ℕ → Stores → Called
@@ -37,7 +35,7 @@ unread buffer s m = called (packed (only BadStore 0)) buffer s m
 
 -- Command, Compose and Release.
 unfoldable pub callBytes : List ℕ → Stores → Call → Called
-callBytes s m c = cond (readable s) (shown (step (worldOf (printerOf s) m) c)) (unread (lent c) s m)
+callBytes s m c = cond (readable s) (shown (step (worldAt s m) c)) (unread (lent c) s m)
 
 -- Start reads no state; it needs only the room for one.
 unfoldable pub startBytes : ℕ → List ℕ → List ℕ → Stores → Called
@@ -63,4 +61,4 @@ bytesAfter h [] = h
 bytesAfter h (c ∷ cs) = bytesAfter (heldOf (callOn h c)) cs
 
 abbrev pub heldIn : World → Held
-heldIn w = held (bytesOf (printerIn w)) (w .core .stores)
+heldIn w = held (bytesIn w) (w .core .stores)

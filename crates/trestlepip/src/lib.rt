@@ -28,7 +28,17 @@ pub extern "C" fn trestlepip_start(
     if state.len() != state::STATE_BYTES {
         return answer::unread();
     }
-    let step = printer::start(form, pitch0, pitch1, pitch2, pitch3, page, legends, tables);
+    let step = printer::start(
+        form,
+        pitch0,
+        pitch1,
+        pitch2,
+        pitch3,
+        &mut state[24..184],
+        page,
+        legends,
+        tables,
+    );
     state::encode(step.printer, state);
     answer::pack(step.answer)
 }
@@ -55,16 +65,19 @@ pub extern "C" fn trestlepip_command(
         return answer::unread();
     }
     let p = state::decode(state);
-    let step = printer::command(p, found.form, byte, sent, reply, page, legends, tables);
-    let given = step.answer;
-    let refusal = given.refusal;
-    if refusal.is_accepted() {
-        state::encode(step.printer, state);
-        return answer::pack(given);
-    }
-    let q = step.printer;
-    state::put_sense(q.sense, state);
-    answer::pack(given)
+    let step = printer::command(
+        p,
+        found.form,
+        byte,
+        sent,
+        reply,
+        &mut state[24..184],
+        page,
+        legends,
+        tables,
+    );
+    state::encode(step.printer, state);
+    answer::pack(step.answer)
 }
 
 // The stores are only read.
@@ -88,7 +101,16 @@ pub extern "C" fn trestlepip_compose(
         return answer::unread();
     }
     let p = state::decode(state);
-    let step = printer::compose(p, found.form, copy, out, page, legends, tables);
+    let step = printer::compose(
+        p,
+        found.form,
+        copy,
+        out,
+        &state[24..184],
+        page,
+        legends,
+        tables,
+    );
     answer::pack(step.answer)
 }
 
@@ -110,14 +132,7 @@ pub extern "C" fn trestlepip_release(
         return answer::unread();
     }
     let p = state::decode(state);
-    let step = printer::release(p, page, legends, tables);
-    let given = step.answer;
-    let refusal = given.refusal;
-    if refusal.is_accepted() {
-        state::encode(step.printer, state);
-        return answer::pack(given);
-    }
-    let q = step.printer;
-    state::put_sense(q.sense, state);
-    answer::pack(given)
+    let step = printer::release(p, &mut state[24..184], page, legends, tables);
+    state::encode(step.printer, state);
+    answer::pack(step.answer)
 }

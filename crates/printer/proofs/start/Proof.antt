@@ -17,8 +17,11 @@ start-spec =
     (tie.spec
     (λ c κs. search needs)
     (λ c κs. search needs)
-    (λ c κs. let x = c .before .before .before .before .before in let s = x .before .before .before .before .before .before .before .before .before in (startable _ _ _ (ap isAccepted (sym (x .before .start-refusal .ensures))
-    ∙ sym (x .is-accepted .ensures) ∙ c .before .before .before .before .if1 .taken), s .pre))
+    (λ c κs. let x = c .before .before .before .before .before in let s = x .before .before .before .before .before .before .before .before .before in (
+      startable _ _ _ (ap isAccepted (sym (x .before .start-refusal .ensures))
+          ∙ sym (x .is-accepted .ensures) ∙ c .before .before .before .before .if1 .taken),
+      s .pre,
+    ))
     (λ c. search needs)
     (λ c. search needs)
     (λ c. search needs)
@@ -33,5 +36,8 @@ start-spec =
     (λ c. search needs)
     (λ c. search needs)
     (λ c. let f = c .before .before .before in let s = f .before .before .before .before .before .before .before .before .before .before .before .before in
-    rw (← f .before .before .before .before .start-refusal .ensures, sym (f .before .before .before .is-accepted .ensures) ∙ f .before .before .if1 .left,
-    f .fill .ensures ∙ ap (λ (n : ℕ). replicate n 0) (s .pre)) (c .none .ensures _)))
+    rw (
+      ← f .before .before .before .before .start-refusal .ensures,
+      sym (f .before .before .before .is-accepted .ensures) ∙ f .before .before .if1 .left,
+      f .fill .ensures ∙ ap (λ (n : ℕ). replicate n 0) (s .pre),
+    ) (c .none .ensures _)))

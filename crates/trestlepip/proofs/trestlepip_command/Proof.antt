@@ -1,4 +1,4 @@
--- Stepped where the contents are good, or refused with 9; what a refused command leaves is the sense over the state's bytes.
+-- Stepped where the contents are good, or refused with 9.
 use Prim.Native.Nat.{_<_}
 use mathlib.Core.Path.{_≡_, sym, _∙_}
 use mathlib.Core.Bool.{true}
@@ -9,7 +9,9 @@ use Rattle.calls.specs.Calls.{Call, command}
 use Rattle.calls.proofs.Good.{sizes-good}
 use Rattle.bytes.specs.State.{byteAt}
 use Rattle.bytes.specs.Contents.{soundBytes}
-use Rattle.trestlepip.proofs.Calls.{no-sizes, sound-read, sound-good, sound-size, read-so, unread-so, sense-so}
+use Rattle.bytes.proofs.Round.{laid}
+use Rattle.trestlepip.proofs.Calls.{no-sizes, sound-size, form-so, good-so, read-so, unread-so}
+use borrow.Rule.Slice.PartMut.{same-len-mid}
 use borrow.Author.Needs.{needs}
 use Rattle.trestlepip.proofs.trestlepip_command.Statement.{statement}
 use Rattle.trestlepip.proofs.trestlepip_command.Tie as tie
@@ -57,29 +59,27 @@ trestlepip-command-spec =
     (λ c. let x = c .before .before .before .before .before .before in unread-so _ _ _ (low-at x) (sym (c .before .before .before .look .ensures .0 _ _ (sizes-at x))
     ∙ not-true _ (c .before .if2 .taken)) (c .unread2 .ensures))
     (λ c κs. sound-size _ _ (sound-at (c .before)))
-    (λ c κs. let d = c .before .before .before .before in let x = d .before .before in
-    (rw (d .decode .ensures) (x .before .before .look .ensures .1 (not-false _ (x .if2 .left))), rw (d .decode .ensures) (sound-good _ _ (sound-at x))))
+    (λ c. search needs)
+    (λ c. search needs)
+    (λ c. omega (arith, sound-size _ _ (sound-at (c .before .before .before))))
+    (λ c κs. let d = c .before .before .before .before .before in let x = d .before .before in let a = start (sized x) in (
+      search needs,
+      (
+        form-so (a .args .state .now) (stores a) (sound-at x) (d .decode .ensures) (x .before .before .look .ensures .1 (not-false _ (x .if2 .left))),
+        good-so (a .args .state .now) (stores a) (sound-at x) (d .decode .ensures),
+      ),
+    ))
+    (λ c κs. let s = c .before .before .before .before .before .before .before .before .before .before .before in let x = s .before .before .before .before .before .before .before .before in
+    same-len-mid 24 160 (start (sized x) .args .state .now) (s .command .last .1 .1 .1 .1 .1 .0) (s .command .kept .1 .1 .1 .1 .1 .0)
+    ∙ sound-size _ _ (sound-at x))
     (λ c κs. search needs)
-    (λ c κs. sound-size _ _ (sound-at (c .before .before .before .before .before .before .before .before .before .before .before .before .before .before .before .before .before .before .before)))
-    (λ c κs. search needs)
     (λ c. search needs)
     (λ c. search needs)
     (λ c. search needs)
     (λ c. search needs)
     (λ c. search needs)
-    (λ c. let s = c .before .before .before .before .before .before .before .before .before .before .before .before .before .before .before .before in let d = s .before .before .before .before .before in
-    read-so _ _ _ (sound-read _ _ (sound-at (d .before .before))) (d .decode .ensures) (s .command .ensures) (c .pack .ensures)
-    (c .before .before .before .encode .ensures))
-    (λ c κs. sound-size _ _ (sound-at (c .before .before .before .before .before .before .before .before .before .before .before .before .before .before .before .before .before .before .before .before)))
-    (λ c κs. search needs)
-    (λ c. search needs)
-    (λ c. search needs)
-    (λ c. search needs)
-    (λ c. search needs)
-    (λ c. search needs)
-    (λ c. let s = c .before .before .before .before .before .before .before .before .before .before .before .before .before .before .before .before .before in let d = s .before .before .before .before .before in let x = d .before .before in let r = sound-read _ _ (sound-at x) in
-    let a = start (sized x) in
-    read-so _ _ _ r (d .decode .ensures) (s .command .ensures) (c .pack2 .ensures)
-    (c .before .before .before .put-sense .ensures
-    ∙ sense-so (d .decode .result) (stores a) (call a) (s .command .ensures)
-    (sym (c .before .before .before .before .before .before .before .is-accepted .ensures) ∙ c .before .before .before .before .before .before .if3 .left) _ (low-at (sized x)) r (d .decode .ensures))))
+    (λ c. let s = c .before .before .before .before .before .before .before .before .before .before .before .before .before .before .before in let d = s .before .before .before .before .before .before in let x = d .before .before in let a = start (sized x) in
+    let k = s .command .last .1 .1 .1 .1 .1 .0 in
+    read-so (a .args .state .now) (stores a) (sound-at x) (d .decode .ensures) (call a) k (s .command .ensures) (c .pack .ensures)
+    (c .before .before .before .encode .ensures k ∙ laid (a .args .state .now) k (s .command .result .printer) (sound-size _ _ (sound-at x))
+    (s .command .kept .1 .1 .1 .1 .1 .0))))

@@ -5,11 +5,12 @@ use mathlib.Core.Bool.{true}
 use native.Mathlib.Omega.{arith}
 use borrow.Author.Tests.{not-true, not-false}
 use Rattle.calls.specs.Core.{Stores, storesOf, sizesOk}
+use Rattle.calls.specs.Calls.{compose}
 use Rattle.calls.proofs.Good.{sizes-good}
-use Rattle.bytes.specs.State.{byteAt, bytesOf, printerOf}
+use Rattle.bytes.specs.State.{byteAt, keptAt}
 use Rattle.bytes.specs.Contents.{soundBytes}
-use Rattle.bytes.proofs.Round.{back}
-use Rattle.trestlepip.proofs.Calls.{no-sizes, sound-read, sound-good, sound-size, read-so, unread-so, compose-printer}
+use Rattle.trestlepip.specs.Face.{bytesIn}
+use Rattle.trestlepip.proofs.Calls.{no-sizes, sound-size, bytes-so, form-so, good-so, read-so, unread-so, compose-world}
 use borrow.Author.Needs.{needs}
 use Rattle.trestlepip.proofs.trestlepip_compose.Statement.{statement}
 use Rattle.trestlepip.proofs.trestlepip_compose.Tie as tie
@@ -34,10 +35,6 @@ sized c = c .before .before .before
 sound-at : (c : tie.Else2) → soundBytes (start (sized c) .args .state .now) (stores (start (sized c))) ≡ true
 sound-at c = sym (c .before .before .look .ensures .0 _ _ (sizes-at (sized c))) ∙ not-false _ (c .if2 .left)
 
--- so that the state's bytes are those of the printer that they stand for
-handed-back : (c : tie.Else2) → let s = start (sized c) .args .state .now in bytesOf (printerOf s) ≡ s
-handed-back c = back _ (low-at (sized c)) (sound-read _ _ (sound-at c))
-
 pub trestlepip-compose-spec : {M : Type 1} → statement M
 trestlepip-compose-spec =
     tie.close
@@ -51,10 +48,19 @@ trestlepip-compose-spec =
     (λ c. let x = c .before .before .before .before in unread-so _ _ _ (low-at x) (sym (c .before .before .before .look .ensures .0 _ _ (sizes-at x))
     ∙ not-true _ (c .before .if2 .taken)) (c .unread2 .ensures))
     (λ c κs. sound-size _ _ (sound-at c))
-    (λ c κs. let d = c .before in let x = d .before in
-    (rw (d .decode .ensures) (x .before .before .look .ensures .1 (not-false _ (x .if2 .left))), rw (d .decode .ensures) (sound-good _ _ (sound-at x))))
+    (λ c. search needs)
+    (λ c. search needs)
+    (λ c. omega (arith, sound-size _ _ (sound-at (c .before .before))))
+    (λ c κs. let d = c .before .before in let x = d .before in let a = start (sized x) in (
+      search needs,
+      (
+        form-so (a .args .state .now) (stores a) (sound-at x) (d .decode .ensures) (x .before .before .look .ensures .1 (not-false _ (x .if2 .left))),
+        good-so (a .args .state .now) (stores a) (sound-at x) (d .decode .ensures),
+      ),
+    ))
     (λ c κs. search needs)
     (λ c. search needs)
-    (λ c. let s = c .before .before .before in let d = s .before .before in let x = d .before in
-    read-so _ _ _ (sound-read _ _ (sound-at x)) (d .decode .ensures) (s .compose .ensures) (c .pack .ensures)
-    (sym (ap bytesOf (compose-printer _ _ (s .compose .ensures) ∙ d .decode .ensures) ∙ handed-back x))))
+    (λ c. let s = c .before .before .before in let d = s .before .before .before in let x = d .before in let a = start (sized x) in
+    let k = keptAt (a .args .state .now) in
+    read-so (a .args .state .now) (stores a) (sound-at x) (d .decode .ensures) (compose (a .args .copy) (a .args .out .now)) k (s .compose .ensures)
+    (c .pack .ensures) (sym (ap bytesIn (compose-world k _ _ (s .compose .ensures)) ∙ bytes-so (a .args .state .now) (stores a) (sound-at x) (d .decode .ensures) (low-at (sized x))))))

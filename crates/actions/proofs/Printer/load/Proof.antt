@@ -31,8 +31,11 @@ load-spec =
     tie.close
     (tie.spec
     (λ c. search needs)
-    (λ c κs. let s = c .before .before .before .before .before .before .before in (fcb-fits _ _ (form-listed _ (s .args .self .fixed .pitches) (s .pre .0))
-    (sound s (c .before .enum-told .given .1)), s .pre .1 .1 .1 .1 .0))
+    (λ c κs. let s = c .before .before .before .before .before .before .before in (
+      fcb-fits _ _ (form-listed _ (s .args .self .fixed .pitches) (s .pre .0))
+          (sound s (c .before .enum-told .given .1)),
+      s .pre .1 .1 .1 .1 .0,
+    ))
     (λ c. search needs)
     (λ c κs. let s = c .before .before .before .before .before .before .before in
     (s .pre .1 .0, (table-long _ (sound s (c .before .enum-told2 .given .1)), s .pre .1 .1 .1 .1 .1 .1)))

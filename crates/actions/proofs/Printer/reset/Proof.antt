@@ -22,6 +22,7 @@ reset-spec =
     (λ c. search needs)
     (λ c. search needs)
     (λ c. let k = c .before .before in let t = k .before .before .before .before in let f = t .before .before .before .before in
-    let s = f .before .before .before .before .before in
-    (λ p. rw (k .start-state .ensures .0, t .start-tables .ensures, f .fill .ensures ∙ ap (λ (n : ℕ). replicate n 0) (s .pre .1 .1 .0)),
-    k .start-state .ensures .1)))
+    let s = f .before .before .before .before .before in (
+      λ p. rw (k .start-state .ensures .0, t .start-tables .ensures, f .fill .ensures ∙ ap (λ (n : ℕ). replicate n 0) (s .pre .1 .1 .0)),
+      k .start-state .ensures .1,
+    )))
