@@ -1,8 +1,8 @@
 // Choices on bytes, parts of slices and loops over them, which every floor uses.
 ghost use mathlib.Core.Path.{_≡_};
-ghost use mathlib.Core.Bool.{cond, not};
+ghost use mathlib.Core.Bool.{cond};
 ghost use Prim.Native.Nat.{_≤_, min};
-ghost use lib.Dec.{eqb};
+ghost use lib.Dec.{eqb, ltb};
 ghost use lib.ListN.{length, take, replicate};
 ghost use Rattle.seq.specs.Words.{any, all, bit, padded, zeroFrom};
 
@@ -80,52 +80,48 @@ pub fn lay_padded(to: &mut [u8], from: &[u8])
     copy_all(&mut to[0..n], from);
 }
 
-fn any_set(s: &[u8]) -> bool
-    ensures { λ r. ⌜ r ≡ any (λ b. not (eqb b 0)) (now (s .entry)) ⌝ }
+fn any_above(limit: u8, s: &[u8]) -> bool
+    ensures { λ r. ⌜ r ≡ any (ltb limit) (now (s .entry)) ⌝ }
 {
-    let mut set = false;
+    let mut found = false;
     let mut i = 0;
     while i < s.len() {
-        set = set | (s[i] != 0);
+        found = found | (limit < s[i]);
         i += 1;
     }
-    set
+    found
 }
 
-// In blocks of 32. The last one goes back over bytes of the one before it, so that none are left to a slow loop over single bytes.
-fn any_set_by_32(s: &[u8]) -> bool
-    ensures { λ r. ⌜ r ≡ any (λ b. not (eqb b 0)) (now (s .entry)) ⌝ }
+// Whether some byte is above the limit, asked in blocks: an early end between them, no branch inside one. The last one goes back over bytes of the
+// one before it, so that none are left to a slow loop over single bytes.
+pub fn any_above_by(block: usize, limit: u8, s: &[u8]) -> bool
+    requires { ⌜ 1 ≤ block ⌝ }
+    ensures { λ r. ⌜ r ≡ any (ltb limit) (now (s .entry)) ⌝ }
 {
     let n = s.len();
-    if n < 32 {
-        return any_set(s);
+    if n < block {
+        return any_above(limit, s);
     }
     let mut at = 0;
-    while 32 <= n - at {
-        let end = at + 32;
-        if any_set(&s[at..end]) {
+    while block < n - at {
+        let end = at + block;
+        if any_above(limit, &s[at..end]) {
             return true;
         }
         at = end;
     }
-    let last = n - 32;
-    any_set(&s[last..n])
+    let last = n - block;
+    any_above(limit, &s[last..n])
 }
 
-// In blocks of 256: an early end between blocks, no branch inside one.
+// Large blocks where there is room for one.
 fn all_zero(s: &[u8]) -> bool
     ensures { λ r. ⌜ r ≡ all (λ b. eqb b 0) (now (s .entry)) ⌝ }
 {
-    let n = s.len();
-    let mut at = 0;
-    while 256 <= n - at {
-        let end = at + 256;
-        if any_set(&s[at..end]) {
-            return false;
-        }
-        at = end;
+    if s.len() < 1024 {
+        return !any_above_by(32, 0, s);
     }
-    !any_set_by_32(&s[at..n])
+    !any_above_by(1024, 0, s)
 }
 
 // Whether all is 00 from place n on.
