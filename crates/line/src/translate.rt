@@ -15,7 +15,7 @@ fn entry(table: &[u8], byte: u8) -> u8
     table[at]
 }
 
-fn look_up(cells: &mut [u8], sent: &[u8], table: &[u8])
+fn look_up_each(cells: &mut [u8], sent: &[u8], table: &[u8])
     requires { ⌜ length (now cells) ≡ length (now sent) ⌝ }
     requires { ⌜ length (now table) ≡ 256 ⌝ }
     ensures { λ _. ⌜ now (cells .exit) ≡ map (λ b. getD (now (table .entry)) b 0) (now (sent .entry)) ⌝ }
@@ -25,6 +25,22 @@ fn look_up(cells: &mut [u8], sent: &[u8], table: &[u8])
         cells[i] = entry(table, sent[i]);
         i += 1;
     }
+}
+
+// Twelve at a time, of which the lines of 132 and 204 are multiples: the compiler then writes the twelve out.
+fn look_up(cells: &mut [u8], sent: &[u8], table: &[u8])
+    requires { ⌜ length (now cells) ≡ length (now sent) ⌝ }
+    requires { ⌜ length (now table) ≡ 256 ⌝ }
+    ensures { λ _. ⌜ now (cells .exit) ≡ map (λ b. getD (now (table .entry)) b 0) (now (sent .entry)) ⌝ }
+{
+    let n = sent.len();
+    let mut at = 0;
+    while 12 <= n - at {
+        let end = at + 12;
+        look_up_each(&mut cells[at..end], &sent[at..end], table);
+        at = end;
+    }
+    look_up_each(&mut cells[at..n], &sent[at..n], table);
 }
 
 // The pitches one by one, so that a loop over codes reads no array.
@@ -51,38 +67,6 @@ fn any_by_module(codes: &[u8], p0: u8, p1: u8, p2: u8, p3: u8) -> bool
     found
 }
 
-fn any_ff(codes: &[u8]) -> bool
-    ensures { λ r. ⌜ r ≡ any (λ c. eqb c 0xFF) (now (codes .entry)) ⌝ }
-{
-    let mut found = false;
-    let mut i = 0;
-    while i < codes.len() {
-        found = found | (codes[i] == 0xFF);
-        i += 1;
-    }
-    found
-}
-
-// In blocks of 16. The last one goes back over codes of the one before it, so that none are left to a slow loop over single bytes.
-fn has_ff(codes: &[u8]) -> bool
-    ensures { λ r. ⌜ r ≡ any (λ c. eqb c 0xFF) (now (codes .entry)) ⌝ }
-{
-    let n = codes.len();
-    if n < 16 {
-        return any_ff(codes);
-    }
-    let mut at = 0;
-    while 16 <= n - at {
-        let end = at + 16;
-        if any_ff(&codes[at..end]) {
-            return true;
-        }
-        at = end;
-    }
-    let last = n - 16;
-    any_ff(&codes[last..n])
-}
-
 fn all_fitted(p0: u8, p1: u8, p2: u8, p3: u8) -> bool
     ensures { λ r. ⌜ r ≡ all (λ p. not (eqb p 0)) (p0 ∷ p1 ∷ p2 ∷ p3 ∷ []) ⌝ }
 {
@@ -94,7 +78,7 @@ fn any_unprintable(codes: &[u8], p0: u8, p1: u8, p2: u8, p3: u8) -> bool
     ensures { λ r. ⌜ r ≡ any (unprintable (p0 ∷ p1 ∷ p2 ∷ p3 ∷ [])) (now (codes .entry)) ⌝ }
 {
     if all_fitted(p0, p1, p2, p3) {
-        return has_ff(codes);
+        return seq::any_above_by(16, 0xFE, codes);
     }
     any_by_module(codes, p0, p1, p2, p3)
 }

@@ -11,7 +11,7 @@ returns c =
     let f = c .before .before in
     let codes = f .before .before .args .codes .now in
     let fitted = sym (f .all-fitted .ensures) ∙ c .before .if1 .taken in
-    c .has-ff .ensures ∙ sym (any-fitted _ _ _ _ codes (λ k. omega (arith, f .before .shared-slice-known .given k)) fitted)
+    c .any-above-by .ensures ∙ sym (any-fitted _ _ _ _ codes (λ k. omega (arith, f .before .shared-slice-known .given k)) fitted)
 
 pub any-unprintable-spec : {M : Type 1} → statement M
 any-unprintable-spec =
