@@ -14,8 +14,7 @@ use Rattle.seq.proofs.Laws.{and-left, and-right, or-right, passed}
 use Rattle.numbers.specs.declared.Cause.the-variants.{SequencePairs, SequenceCounts, NumberRecord}
 use Rattle.numbers.specs.declared.Checked.the-variants.{Sound, Faulty}
 use Rattle.numbers.proofs.Laws.{faulty}
-use Rattle.copies.specs.Copies.{Copies}
-use Rattle.copies.specs.Copies.{tableCheck, pairsOf, copiesOf, wholePairs, badPair, sequenceCheck, markIn, numberCheck, copyNumber}
+use Rattle.copies.specs.Copies.{Copies, tableCheck, pairsOf, copiesOf, badPair, sequenceCheck, markIn, numberCheck, copyNumber}
 
 -- The pairs from place i on: the one there before those after it, and none where fewer than two bytes are left.
 module _ (r : List ℕ) (i : ℕ) where
@@ -58,16 +57,21 @@ pub table-long : (r : List ℕ) → tableCheck r ≡ Sound → 256 ≤ length r
 unfolding tableCheck
 table-long r e = ltb-false (length r) 256 (passed _ _ faulty e .0)
 
--- 1 to 8 whole pairs fit the array.
-pub whole-fits : (r : List ℕ) → wholePairs r ≡ true → length r ≤ 16
-whole-fits r w =
-    let even : length r % 2 ≡ 0 = eqb-true _ _ (and-left _ (leb 1 (length r / 2)) (and-left _ (leb (length r / 2) 8) w)) in
-    let few : length r / 2 ≤ 8 = leb-true _ _ (and-right (eqb (length r % 2) 0 && leb 1 (length r / 2)) _ w) in
-    omega arith
+-- 1 to 8 whole pairs are an even number of bytes, and fit the array.
+abbrev pub wholeLength : ℕ → Bool
+wholeLength n = eqb (n % 2) 0 && leb 1 (n / 2) && leb (n / 2) 8
+
+pub whole-even : (n : ℕ) → wholeLength n ≡ true → n % 2 ≡ 0
+whole-even n w = eqb-true _ _ (and-left _ (leb 1 (n / 2)) (and-left _ (leb (n / 2) 8) w))
+
+pub whole-fits : (n : ℕ) → wholeLength n ≡ true → n ≤ 16
+whole-fits n w =
+    let few : n / 2 ≤ 8 = leb-true _ _ (and-right (eqb (n % 2) 0 && leb 1 (n / 2)) _ w) in
+    omega (arith, whole-even n w)
 
 pub sequence-fits : (r : List ℕ) → sequenceCheck r ≡ Sound → length r ≤ 16
 unfolding sequenceCheck
-sequence-fits r e = whole-fits r (not-false _ (passed _ _ faulty e .0))
+sequence-fits r e = whole-fits (length r) (not-false _ (passed _ _ faulty e .0))
 
 pub few-copies : (r : List ℕ) → sequenceCheck r ≡ Sound → copiesOf r ≤ 255
 unfolding sequenceCheck

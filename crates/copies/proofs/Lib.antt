@@ -1,1 +1,2 @@
 pub mod CopiesLaws
+pub mod KeptLaws

@@ -2,11 +2,13 @@
 use numbers::Cause;
 use numbers::Checked;
 ghost use mathlib.Core.Path.{_≡_};
-ghost use Prim.Native.Nat.{_+_, _-_, _≤_};
+ghost use mathlib.Core.Bool.{cond, not, _&&_, _||_};
+ghost use Prim.Native.Nat.{_+_, _-_, _/_, _%_, _≤_, _<_};
+ghost use lib.Dec.{eqb, leb, ltb};
 ghost use lib.ListN.{length, take};
 ghost use Rattle.seq.specs.Words.{any, zeroFrom};
 ghost use Rattle.numbers.specs.Numbers.{isSound};
-ghost use Rattle.copies.specs.Copies.{tableCheck, pairsOf, copiesOf, wholePairs, badPair, sequenceCheck, markIn, numberCheck};
+ghost use Rattle.copies.specs.Copies.{tableCheck, pairsOf, copiesOf, badPair, sequenceCheck, markIn, numberCheck};
 ghost use Rattle.copies.specs.Copies.{pairSize, copiesInRange};
 
 pub fn table_check(sent: &[u8]) -> Checked
@@ -18,10 +20,10 @@ pub fn table_check(sent: &[u8]) -> Checked
     Checked::Sound
 }
 
-fn whole_pairs(sent: &[u8]) -> bool
-    ensures { λ r. ⌜ r ≡ wholePairs (now (sent .entry)) ⌝ }
+// Whether n bytes are 1 to 8 whole pairs.
+fn whole_pairs(n: usize) -> bool
+    ensures { λ r. ⌜ r ≡ (eqb (n % 2) 0 && leb 1 (n / 2) && leb (n / 2) 8) ⌝ }
 {
-    let n = sent.len();
     (n % 2 == 0) & (1 <= n / 2) & (n / 2 <= 8)
 }
 
@@ -81,7 +83,7 @@ fn mark_in(k: u16, pairs: &[u8]) -> u8
 pub fn sequence_check(sent: &[u8]) -> Checked
     ensures { λ r. ⌜ r ≡ sequenceCheck (now (sent .entry)) ⌝ }
 {
-    if !whole_pairs(sent) {
+    if !whole_pairs(sent.len()) {
         return Checked::Faulty(Cause::SequencePairs);
     }
     if any_bad_pair(sent) | (255 < total_copies(sent)) {
@@ -131,6 +133,48 @@ pub fn sequence_ok(pairs: &[u8], count: u8) -> bool
     ensures { λ r. ⌜ r ≡ isSound (sequenceCheck (take count (now (pairs .entry)))) ⌝ }
 {
     sequence_check(seq::front(pairs, seq::wide(count))).is_sound()
+}
+
+// The byte at place k: copies from 1 on, a mark of 0 or 1, and 00 after the count are not loose. One difference tests a byte, as it wraps below the
+// least; another tells by its sign that k comes before the count. So the compiler takes all places at once.
+fn is_loose(count: u8, k: u8, b: u8) -> bool
+    requires { ⌜ k < 16 ⌝ }
+    ensures { λ r. ⌜ (count ≤ 16 → r ≡ cond (ltb k count) (cond (eqb (k % 2) 0) (eqb b 0) (ltb 1 b)) (not (eqb b 0))) ⌝ }
+{
+    let within = 127 < std::num::wrapping_sub_u8(k, count);
+    let copies = k % 2 == 0;
+    let least = seq::flag(within & copies, 1);
+    let more = seq::flag(within, seq::pick(copies, 254, 1));
+    more < std::num::wrapping_sub_u8(b, least)
+}
+
+// All 16 whatever the count is, and the place as a byte beside the index: so the loop has no branch and a known end.
+fn any_loose(count: u8, pairs: &[u8]) -> bool
+    requires { ⌜ length (now pairs) ≡ 16 ⌝ }
+    ensures { λ r. ⌜ (count ≤ 16 → count % 2 ≡ 0
+        → r ≡ (any badPair (pairsOf (take count (now (pairs .entry)))) || not (zeroFrom count (now (pairs .entry))))) ⌝ }
+{
+    let mut found = false;
+    let mut k: u8 = 0;
+    let mut i = 0;
+    while i < 16 {
+        found = found | is_loose(count, k, pairs[i]);
+        k += 1;
+        i += 1;
+    }
+    found
+}
+
+// What a printer keeps, asked of its bytes. Where none is loose, all 16 have the copies of the sequence.
+pub fn kept_ok(pairs: &[u8], count: u8, reference: u8) -> bool
+    requires { ⌜ length (now pairs) ≡ 16 ⌝ }
+    ensures { λ r. ⌜ r ≡ (copiesInRange (record { pairs = now (pairs .entry); count = count; reference = reference })
+        && isSound (sequenceCheck (take count (now (pairs .entry))))) ⌝ }
+{
+    let whole = whole_pairs(seq::wide(count));
+    let loose = any_loose(count, pairs);
+    let copies = total_copies(pairs);
+    whole & ((1 <= reference) & (!loose & (copies <= 255)))
 }
 
 // The copies of a page by the sequence kept: how many, and the number and mark of copy k.

@@ -17,7 +17,7 @@ unfolding sequenceCheck firstOr when
 returns c = simp (sym (c .before .whole-pairs .ensures) ∙ not-true _ (c .if1 .taken))
 
 total-copies-requires : tie.Need-total-copies-requires
-total-copies-requires c κs = whole-fits (c .before .before .before .before .args .sent .now) (whole (c .before))
+total-copies-requires c κs = whole-fits _ (whole (c .before))
 
 returns-2 : tie.Need-returns-2
 unfolding sequenceCheck firstOr when
