@@ -11,7 +11,7 @@ use lib.Seq.{drop-cons, length-take-le}
 use lib.Dec.{eqb, leb, ltb}
 use borrow.Author.Tests.{eqb-true, eqb-false, eq-eqb, ne-eqb, leb-true, le-leb, lt-leb, ltb-true, ltb-false, lt-ltb, le-ltb, not-false}
 use Rattle.seq.specs.Words.{any, bit, when, firstOr, every, zeroFrom}
-use Rattle.seq.proofs.Laws.{or-left, or-right}
+use Rattle.seq.proofs.Laws.{or-left, or-right, above-zero}
 use Rattle.seq.proofs.Loops.{any-not-all}
 use Rattle.numbers.specs.declared.Cause.the-variants.{SequenceCounts}
 use Rattle.numbers.specs.declared.Checked.the-variants.{Sound, Faulty}
@@ -51,11 +51,7 @@ differs b d true true l e = go (eqb b 0) refl
     go true p = lt-ltb 254 d (omega (arith, eqb-true b 0 p))
     go false p = le-ltb 254 d (omega (arith, eqb-false b 0 p))
 differs b d true false l e = let q : d ≡ b = omega arith in ap (ltb 1) q
-differs b d false c l e = go (eqb b 0) refl
-  where
-    go : (t : Bool) → eqb b 0 ≡ t → ltb 0 d ≡ not t
-    go true p = le-ltb 0 d (omega (arith, eqb-true b 0 p))
-    go false p = lt-ltb 0 d (omega (arith, eqb-false b 0 p))
+differs b d false c l e = let q : d ≡ b = omega arith in rw q (above-zero b)
 
 -- Of whole pairs: a bad one, or a byte after them that is not 00.
 after-loose : (n i : ℕ) (l : List ℕ) → n ≤ i → loose n i l ≡ any isSet l

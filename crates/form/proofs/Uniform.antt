@@ -12,7 +12,7 @@ use lib.ListN.{length, getD, take, drop, length-drop, take-append-drop}
 use lib.Seq.{drop-drop, drop-cons, length-take-le, getD-take}
 use borrow.Author.Tests.{eqb-true, eqb-false, ltb-true, ltb-false, leb-true, eq-eqb, ne-eqb, lt-ltb, le-ltb, le-leb, lt-leb, not-true, not-false}
 use Rattle.seq.specs.Words.{any, every}
-use Rattle.seq.proofs.Laws.{and-left, and-right, or-left, or-right}
+use Rattle.seq.proofs.Laws.{and-left, and-right, or-left, or-right, above-zero}
 use Rattle.seq.proofs.Loops.{any-append, any-split, any-not-all}
 use Rattle.form.specs.Form.{upper, unitsOf, units, halfInch, runs, runsFrom, unitsTotal, between, linesWhere, printable, edges, oddRun, layoutOf, formsInRange, hasChannel}
 use Rattle.form.specs.Pass.{astray, uniform, loose}
@@ -196,11 +196,7 @@ differs u b d h l e = go (eqb (b / 16) u) refl (ltb 12 (b % 16)) refl
 pub differs-within : (u b d : ℕ) (w : Bool) → u ≤ 15 → d < 256 → (d + cond w (16 * u) 0) % 256 ≡ b
     → ltb (cond w 12 0) d ≡ cond w (astray u b) (not (eqb b 0))
 differs-within u b d true h l e = differs u b d h l e
-differs-within u b d false h l e = go (eqb b 0) refl
-  where
-    go : (t : Bool) → eqb b 0 ≡ t → ltb 0 d ≡ not t
-    go true p = le-ltb 0 d (omega (arith, eqb-true b 0 p))
-    go false p = lt-ltb 0 d (omega (arith, eqb-false b 0 p))
+differs-within u b d false h l e = let q : d ≡ b = omega arith in rw q (above-zero b)
 
 -- The scan of the bytes that a printer keeps: one more of them, and none left.
 loose-step : (u n i b : ℕ) (r : List ℕ) (t : Bool) → ltb i n ≡ t

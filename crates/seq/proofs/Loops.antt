@@ -9,9 +9,8 @@ use native.Mathlib.Omega.{arith}
 use lib.ListN.{length, getD, take, drop, set, take-append-drop, drop-of-length-le}
 use lib.Seq.{take-all, take-take, take-add}
 use lib.Dec.{eqb, ltb}
-use borrow.Author.Tests.{lt-ltb, ne-eqb}
 use Rattle.seq.specs.Words.{any, all, zipped}
-use Rattle.seq.proofs.Laws.{or-left}
+use Rattle.seq.proofs.Laws.{or-left, above-zero}
 
 -- A loop that writes: the first n elements are the goal's, the others as they were.
 unfoldable pub filled : ℕ → List ℕ → List ℕ → List ℕ
@@ -108,11 +107,7 @@ any-not-all f (x ∷ xs) = step (f x) (any (λ y. not (f y)) xs) (all f xs) (any
 
 -- no byte is above 0 where all are 00
 pub none-above : (xs : List ℕ) → not (any (ltb 0) xs) ≡ all (λ b. eqb b 0) xs
-none-above xs = ap (λ (f : ℕ → Bool). not (any f xs)) (λ i b. above b i) ∙ any-not-all (λ b. eqb b 0) xs
-  where
-    above : (b : ℕ) → ltb 0 b ≡ not (eqb b 0)
-    above zero = refl
-    above (suc b) = rw (lt-ltb 0 (suc b) (omega arith), ne-eqb (suc b) 0 (λ e. omega (arith, e)))
+none-above xs = ap (λ (f : ℕ → Bool). not (any f xs)) (λ i b. above-zero b i) ∙ any-not-all (λ b. eqb b 0) xs
 
 -- Elements of lists that a loop builds.
 pub getD-map : {A B : Type 0} (f : A → B) (d : A) (e : B) (k : ℕ) (xs : List A) → k < length xs → getD (map f xs) k e ≡ f (getD xs k d)
