@@ -71,10 +71,7 @@ fn copies_ok(s: &[u8]) -> bool
     requires { ⌜ length (now s) ≡ 184 ⌝ }
     ensures { λ r. ⌜ r ≡ copiesOk (stateAt (now (s .entry))) ⌝ }
 {
-    let count = s[13];
-    let range = copies::copies_in_range(&s[24..40], count, s[14]);
-    let sequence = copies::sequence_ok(&s[24..40], count);
-    range & sequence
+    copies::kept_ok(&s[24..40], s[13], s[14])
 }
 
 fn kept(s: &[u8]) -> Kept

@@ -3,12 +3,11 @@ use Prim.Native.Nat.{ℕ, zero, suc, _+_, _-_, _/_, _%_, _≤_, _<_}
 use mathlib.Core.Path.{_≡_, refl}
 use mathlib.Core.Bool.{Bool, true, false, not, _&&_, _||_}
 use mathlib.Core.List.{List, [], _∷_, map}
-use native.Mathlib.Numerals.{add-one}
 use native.Mathlib.Omega.{arith}
 use lib.ListN.{length, getD, drop, replicate, length-drop}
 use lib.Seq.{drop-cons}
 use lib.Dec.{eqb, leb}
-use borrow.Author.Tests.{eqb-true, eqb-false, leb-true, leb-false, ltb-false, not-true, not-false}
+use borrow.Author.Tests.{eqb-true, eqb-false, leb-true, ltb-false, not-true, not-false}
 use Rattle.seq.specs.Words.{any, when, firstOr, joined, zeros}
 use Rattle.seq.proofs.Laws.{and-left, and-right, or-right, passed}
 use Rattle.numbers.specs.declared.Cause.the-variants.{SequencePairs, SequenceCounts, NumberRecord}
@@ -33,25 +32,6 @@ module _ (r : List ℕ) (i : ℕ) where
       short [] h = refl
       short (n ∷ []) h = refl
       short (n ∷ m ∷ l) h = absurd (omega arith)
-
--- What is not 00 among the bytes from place n on, from place i on: the one there, if n is passed, before those after it.
-abbrev pub isSet : ℕ → Bool
-isSet b = not (eqb b 0)
-
-after-step : (n i b : ℕ) (r : List ℕ) (t : Bool) → leb n i ≡ t → any isSet (drop (n - i) (b ∷ r)) ≡ ((t && isSet b) || any isSet (drop (n - suc i) r))
-after-step n i b r true e =
-    let p : n - i ≡ 0 = omega (arith, leb-true n i e) in
-    let q : n - suc i ≡ 0 = omega (arith, leb-true n i e) in
-    rw (p, q)
-after-step n i b r false e = let p : n - i ≡ suc (n - suc i) = omega (arith, leb-false n i e) in rw p
-
-pub after-more : (n i : ℕ) (l : List ℕ) → i < length l
-    → any isSet (drop (n - i) (drop i l)) ≡ ((leb n i && isSet (getD l i 0)) || any isSet (drop (n - (i + 1)) (drop (i + 1) l)))
-after-more n i l h = rw (add-one, drop-cons l i 0 h) (after-step n i (getD l i 0) (drop (suc i) l) (leb n i) refl)
-
-pub after-none : (n : ℕ) → any isSet (drop n []) ≡ false
-after-none zero = refl
-after-none (suc n) = refl
 
 pub table-long : (r : List ℕ) → tableCheck r ≡ Sound → 256 ≤ length r
 unfolding tableCheck

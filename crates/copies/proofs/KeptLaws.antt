@@ -17,7 +17,10 @@ use Rattle.numbers.specs.declared.Cause.the-variants.{SequenceCounts}
 use Rattle.numbers.specs.declared.Checked.the-variants.{Sound, Faulty}
 use Rattle.numbers.specs.Numbers.{isSound}
 use Rattle.copies.specs.Copies.{pairsOf, copiesOf, badPair, sequenceCheck, copiesInRange}
-use Rattle.copies.proofs.CopiesLaws.{isSet, wholeLength, whole-fits, whole-even}
+use Rattle.copies.proofs.CopiesLaws.{wholeLength, whole-fits, whole-even}
+
+abbrev isSet : ℕ → Bool
+isSet b = not (eqb b 0)
 
 -- The byte at place i of those kept, n of them the sequence: whether it is loose, and whether one from there on is.
 abbrev pub looseAt : ℕ → ℕ → ℕ → Bool

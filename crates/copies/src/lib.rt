@@ -104,37 +104,6 @@ pub fn number_check(sent: &[u8]) -> Checked
     Checked::Sound
 }
 
-// All 16 whatever the count is, and the place as a byte beside the index: so the loop has no branch and a known end.
-fn zero_after(count: u8, pairs: &[u8]) -> bool
-    requires { ⌜ length (now pairs) ≡ 16 ⌝ }
-    ensures { λ r. ⌜ r ≡ zeroFrom count (now (pairs .entry)) ⌝ }
-{
-    let mut found = false;
-    let mut k: u8 = 0;
-    let mut i = 0;
-    while i < 16 {
-        found = found | ((count <= k) & (pairs[i] != 0));
-        k += 1;
-        i += 1;
-    }
-    !found
-}
-
-// What a printer keeps, asked of its bytes.
-pub fn copies_in_range(pairs: &[u8], count: u8, reference: u8) -> bool
-    requires { ⌜ length (now pairs) ≡ 16 ⌝ }
-    ensures { λ r. ⌜ r ≡ copiesInRange (record { pairs = now (pairs .entry); count = count; reference = reference }) ⌝ }
-{
-    let zero = zero_after(count, pairs);
-    (count <= 16) & (zero & (1 <= reference))
-}
-
-pub fn sequence_ok(pairs: &[u8], count: u8) -> bool
-    ensures { λ r. ⌜ r ≡ isSound (sequenceCheck (take count (now (pairs .entry)))) ⌝ }
-{
-    sequence_check(seq::front(pairs, seq::wide(count))).is_sound()
-}
-
 // The byte at place k: copies from 1 on, a mark of 0 or 1, and 00 after the count are not loose. One difference tests a byte, as it wraps below the
 // least; another tells by its sign that k comes before the count. So the compiler takes all places at once.
 fn is_loose(count: u8, k: u8, b: u8) -> bool

@@ -7,7 +7,7 @@ use Rattle.bytes.proofs.contents.copies_ok.Tie as tie
 
 returns : tie.Need-returns
 unfolding copiesOk stateAt
-returns c = rw (c .before .before .copies-in-range .ensures, c .sequence-ok .ensures)
+returns c = c .kept-ok .ensures
 
 pub copies-ok-spec : {M : Type 1} → statement M
 copies-ok-spec =
@@ -15,10 +15,6 @@ copies-ok-spec =
     (tie.spec
     (λ c. search needs)
     (λ c. search needs)
-    (λ c. search needs)
-    (λ c. search needs)
-    (λ c. search needs)
-    (λ c κs. search needs)
     (λ c. search needs)
     (λ c. search needs)
     (λ c. search needs)
