@@ -18,7 +18,7 @@ use Rattle.copies.specs.Copies.{pairSize}
 use Rattle.calls.specs.Core.{State}
 use Rattle.actions.specs.declared.Printer.{Printer}
 use Rattle.actions.specs.Whole.{keptSize, pairsIn, fcbIn, stateOf}
-use Rattle.bytes.specs.State.{stateSize, smallBytes, bytesOf, stateAt, senseAt, printerOf, keptAt, readable, flagPlaces, byteAt, flagAt}
+use Rattle.bytes.specs.State.{stateSize, smallBytes, bytesOf, stateAt, senseAt, printerOf, keptAt, readable, flagPlaces, byteAt, flagAt, withSense}
 
 -- the arrays are as long as their types say: pitches, slots loaded, the overlay sequence's pairs, the FCB's bytes
 pub record Lengths (ps : List ℕ) (slots : List Bool) (qs f : List ℕ) : Type 0 where
@@ -146,17 +146,33 @@ pub whole : (s : List ℕ) → length s ≡ stateSize → stateOf (printerOf s) 
 unfolding stateAt pairsIn fcbIn
 whole s e = rw (take-all keptSize (drop 24 s) (simp length-drop (omega arith)), drop-drop pairSize 24 s)
 
+-- The kept bytes are the pairs and the FCB.
+pub cut-kept : (k : List ℕ) → length k ≡ keptSize → pairsIn k ++ fcbIn k ≡ k
+unfolding pairsIn fcbIn
+cut-kept k e = rw (take-all fcbSize (drop pairSize k) (simp length-drop (omega arith)), take-append-drop pairSize k)
+
+pub kept-size : (s : List ℕ) → length s ≡ stateSize → length (keptAt s) ≡ keptSize
+kept-size s e = length-take-le keptSize (drop 24 s) (simp length-drop (omega arith))
+
 -- The small bytes of a printer over the front of s, whose arrays have become k: the bytes of both.
 pub laid : (s k : List ℕ) (p : Printer) → length s ≡ stateSize → length k ≡ length (keptAt s)
     → smallBytes (stateOf p k) (p .sense) ++ drop 24 (take 24 s ++ (k ++ drop keptSize (drop 24 s))) ≡ bytesOf (stateOf p k) (p .sense)
-unfolding bytesOf pairsIn fcbIn
+unfolding bytesOf
 laid s k p e l =
-    let h : length k ≡ keptSize = l ∙ length-take-le keptSize (drop 24 s) (simp length-drop (omega arith)) in
     ap (λ (l : List ℕ). smallBytes (stateOf p k) (p .sense) ++ l)
     (rw (
       drop-at (take 24 s) (k ++ drop keptSize (drop 24 s)) 24 (length-take-le 24 s (omega arith)),
       drop-of-length-le (drop keptSize (drop 24 s)) {i = 0} (simp length-drop (omega arith)),
       append-nil,
-      take-all fcbSize (drop pairSize k) (simp length-drop (omega arith)),
-      take-append-drop pairSize k,
+      cut-kept k (l ∙ kept-size s e),
     ))
+
+-- With another sense in its bytes, and arrays that are the same, a state stands for the printer with that sense.
+pub sensed : (s k : List ℕ) (q : Sense) → byteAt s 1 < 256 → readable s ≡ true → k ≡ keptAt s
+    → withSense (take 24 s ++ (k ++ drop keptSize (drop 24 s))) q ≡ bytesOf (stateAt s) q
+unfolding bytesOf
+sensed s k q h e d =
+    let put : take 24 s ++ (k ++ drop keptSize (drop 24 s)) ≡ s =
+    rw (d, take-append-drop keptSize (drop 24 s), take-append-drop 24 s)
+    in
+    ap (λ (l : List ℕ). withSense l q) (put ∙ sym (back s h e))

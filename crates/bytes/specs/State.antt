@@ -83,6 +83,10 @@ flagPlaces = 6 ∷ 8 ∷ 9 ∷ 10 ∷ 11 ∷ 16 ∷ 17 ∷ 18 ∷ []
 unfoldable pub readable : List ℕ → Bool
 readable s = every (eqb (length s) stateSize ∷ all (λ n. leb (byteAt s n) 1) flagPlaces ∷ [])
 
+-- A state with another sense: bytes 19 to 23 replaced.
+abbrev pub withSense : List ℕ → Sense → List ℕ
+withSense s q = take 19 s ++ ((q .b0 ∷ q .b1 ∷ q .b2 ∷ q .b22 ∷ q .b23 ∷ []) ++ drop 5 (drop 19 s))
+
 -- The printer by value, which leaves its two arrays in these bytes.
 abbrev pub printerOf : List ℕ → Printer
 printerOf s =

@@ -11,7 +11,7 @@ ghost use lib.ListN.{length, drop};
 ghost use lib.Dec.{leb};
 ghost use Rattle.seq.specs.Words.{all};
 ghost use Rattle.actions.specs.Whole.{stateOf};
-ghost use Rattle.bytes.specs.State.{smallBytes, byteAt, printerOf, flagPlaces, readable};
+ghost use Rattle.bytes.specs.State.{smallBytes, byteAt, printerOf, flagPlaces, readable, withSense};
 
 pub const STATE_BYTES: usize = 184;
 
@@ -114,6 +114,15 @@ fn small_bytes(p: Printer) -> [u8; 24]
         sense.b22,
         sense.b23,
     ]
+}
+
+// The sense alone, over a state that is otherwise as it was: what a refused call changes at most.
+pub fn put_sense(sense: Sense, s: &mut [u8])
+    requires { ⌜ length (now s) ≡ 184 ⌝ }
+    ensures { λ _. ⌜ now (s .exit) ≡ withSense (now (s .entry)) sense ⌝ }
+{
+    let bytes = [sense.b0, sense.b1, sense.b2, sense.b22, sense.b23];
+    seq::copy_all(&mut s[19..24], &bytes);
 }
 
 // The bytes of a printer, over the front of s; its arrays are in s already.

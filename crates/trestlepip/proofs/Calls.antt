@@ -2,28 +2,29 @@
 use Prim.Native.Nat.{ℕ, _<_}
 use mathlib.Core.Path.{_≡_, refl, sym, ap, _∙_}
 use mathlib.Core.Bool.{Bool, true, false, cond, _&&_}
-use mathlib.Core.List.{List, [], _∷_}
+use mathlib.Core.List.{List, [], _∷_, _++_}
 use lib.Dec.{eqb}
-use lib.ListN.{length}
+use lib.ListN.{length, take, drop}
 use Rattle.seq.specs.Words.{when, firstOr, zeros}
 use Rattle.seq.proofs.Laws.{and-left, and-right}
 use Rattle.numbers.specs.declared.Sense.{Sense}
 use Rattle.numbers.specs.declared.Refusal.the-variants.{Accepted, NoPage, BadIndex, TooShort, BadStore}
-use Rattle.numbers.specs.Numbers.{rowOf, only, senseAfter}
+use Rattle.numbers.specs.Numbers.{rowOf, isAccepted, only, senseAfter}
 use Rattle.form.specs.declared.Layout.{Layout}
 use Rattle.calls.specs.Core.{Stores, State, World, sizesOk, laidOut}
 use Rattle.calls.specs.Contents.{coreOk}
 use Rattle.calls.specs.Effects.{Effect, refused}
 use Rattle.calls.specs.Calls.{Call, compose, doCompose, perform, lent, refusalOf, Outcome, step}
 use Rattle.calls.specs.Start.{startOutcome, noState, noPrinter}
-use Rattle.calls.proofs.Refused.{by-outcome, nine}
+use Rattle.calls.proofs.Refused.{by-outcome, nine, refused-step}
+use Rattle.calls.proofs.Answers.{names}
 use Rattle.actions.specs.declared.Printer.{Printer}
 use Rattle.actions.specs.declared.Step.{Step}
-use Rattle.actions.specs.Whole.{lentWith, stateOf, coreOf, worldOf, outcome}
-use Rattle.bytes.specs.State.{stateSize, bytesOf, byteAt, stateAt, coreAt, worldAt, printerOf, keptAt, readable}
+use Rattle.actions.specs.Whole.{keptSize, lentWith, stateOf, coreOf, worldOf, outcome}
+use Rattle.bytes.specs.State.{stateSize, bytesOf, byteAt, stateAt, coreAt, worldAt, printerOf, keptAt, readable, withSense}
 use Rattle.bytes.specs.Contents.{soundBytes}
 use Rattle.bytes.specs.Packed.{packed}
-use Rattle.bytes.proofs.Round.{back, whole, readable-size}
+use Rattle.bytes.proofs.Round.{back, whole, cut-kept, kept-size, sensed, readable-size}
 use Rattle.bytes.proofs.Parts.{sound-parts}
 use Rattle.trestlepip.specs.Face.{bytesIn, shown, unread, called, callBytes, startBytes}
 
@@ -87,6 +88,22 @@ module _ (s : List ℕ) (m : Stores) {p : Printer} (e : soundBytes s m ≡ true)
   read-so c k o a b =
       rw (sound-read s m e)
       (shown-so k (o ∙ (λ i. step (record { core = record { state = state-so i; stores = m }; sense = d i .sense }) c)) a b)
+
+  -- A refused call leaves all but the sense, so that the state's other bytes stay.
+  module _ (c : Call) (k : List ℕ) {r : Step} {buffer : List ℕ} {m′ : Stores}
+      (o : outcome r buffer (lentWith k m′) ≡ step (worldOf p (lentWith (keptAt s) m)) c) (x : isAccepted (r .answer .refusal) ≡ false) where
+    left-so : stateOf (r .printer) k ≡ stateOf p (keptAt s)
+    left-so =
+        let w = worldOf p (lentWith (keptAt s) m) in
+        ap (λ (z : Outcome). z .world .core .state)
+        (o ∙ refused-step w c (ap isAccepted (sym (ap (λ (z : Outcome). z .answer .refusal) o ∙ names w c)) ∙ x))
+
+    pub sense-so : byteAt s 1 < 256 → length k ≡ length (keptAt s)
+        → withSense (take 24 s ++ (k ++ drop keptSize (drop 24 s))) (r .printer .sense) ≡ bytesIn (worldOf (r .printer) (lentWith k m′))
+    sense-so low l =
+        let size = kept-size s (sound-size s m e) in
+        let kept = sym (cut-kept k (l ∙ size)) ∙ (λ i. left-so i .copies .pairs ++ left-so i .forms .fcb) ∙ cut-kept (keptAt s) size in
+        sensed s k (r .printer .sense) low (sound-read s m e) kept ∙ ap (λ (z : State). bytesOf z (r .printer .sense)) (sym (left-so ∙ state-so))
 
 -- Start's.
 module _ (form : ℕ) (pitches s : List ℕ) (m : Stores) where

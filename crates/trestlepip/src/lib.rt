@@ -76,8 +76,15 @@ pub extern "C" fn trestlepip_command(
         legends,
         tables,
     );
-    state::encode(step.printer, state);
-    answer::pack(step.answer)
+    let given = step.answer;
+    let refusal = given.refusal;
+    if refusal.is_accepted() {
+        state::encode(step.printer, state);
+        return answer::pack(given);
+    }
+    let q = step.printer;
+    state::put_sense(q.sense, state);
+    answer::pack(given)
 }
 
 // The stores are only read.
@@ -133,6 +140,13 @@ pub extern "C" fn trestlepip_release(
     }
     let p = state::decode(state);
     let step = printer::release(p, &mut state[24..184], page, legends, tables);
-    state::encode(step.printer, state);
-    answer::pack(step.answer)
+    let given = step.answer;
+    let refusal = given.refusal;
+    if refusal.is_accepted() {
+        state::encode(step.printer, state);
+        return answer::pack(given);
+    }
+    let q = step.printer;
+    state::put_sense(q.sense, state);
+    answer::pack(given)
 }

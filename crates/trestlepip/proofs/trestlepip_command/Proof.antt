@@ -1,8 +1,10 @@
--- Stepped where the contents are good, or refused with 9.
+-- Stepped where the contents are good, or refused with 9; what a refused command leaves is the sense over the state's bytes.
 use Prim.Native.Nat.{_<_}
 use mathlib.Core.Path.{_≡_, sym, _∙_}
 use mathlib.Core.Bool.{true}
+use mathlib.Core.List.{_++_}
 use native.Mathlib.Omega.{arith}
+use lib.ListN.{length, take, drop}
 use borrow.Author.Tests.{not-true, not-false}
 use Rattle.calls.specs.Core.{Stores, storesOf, sizesOk}
 use Rattle.calls.specs.Calls.{Call, command}
@@ -10,7 +12,7 @@ use Rattle.calls.proofs.Good.{sizes-good}
 use Rattle.bytes.specs.State.{byteAt}
 use Rattle.bytes.specs.Contents.{soundBytes}
 use Rattle.bytes.proofs.Round.{laid}
-use Rattle.trestlepip.proofs.Calls.{no-sizes, sound-size, form-so, good-so, read-so, unread-so}
+use Rattle.trestlepip.proofs.Calls.{no-sizes, sound-size, form-so, good-so, read-so, sense-so, unread-so}
 use borrow.Rule.Slice.PartMut.{same-len-mid}
 use borrow.Author.Needs.{needs}
 use Rattle.trestlepip.proofs.trestlepip_command.Statement.{statement}
@@ -38,6 +40,16 @@ sized c = c .before .before .before .before .before
 
 sound-at : (c : tie.Else2) → soundBytes (start (sized c) .args .state .now) (stores (start (sized c))) ≡ true
 sound-at c = sym (c .before .before .look .ensures .0 _ _ (sizes-at (sized c))) ∙ not-false _ (c .if2 .left)
+
+-- the state once the call is done, of which it wrote the kept bytes alone
+abbrev found : tie.After-command → tie.Else2
+found c = c .before .before .before .before .before .before .before .before
+
+size-at : (c : tie.After-command) → let s = start (sized (found c)) .args .state .now in
+    length (take 24 s ++ (c .command .last .1 .1 .1 .1 .1 .0 ++ drop 160 (drop 24 s))) ≡ 184
+size-at c =
+    same-len-mid 24 160 (start (sized (found c)) .args .state .now) (c .command .last .1 .1 .1 .1 .1 .0) (c .command .kept .1 .1 .1 .1 .1 .0)
+    ∙ sound-size _ _ (sound-at (found c))
 
 pub trestlepip-command-spec : {M : Type 1} → statement M
 trestlepip-command-spec =
@@ -69,17 +81,29 @@ trestlepip-command-spec =
         good-so (a .args .state .now) (stores a) (sound-at x) (d .decode .ensures),
       ),
     ))
-    (λ c κs. let s = c .before .before .before .before .before .before .before .before .before .before .before in let x = s .before .before .before .before .before .before .before .before in
-    same-len-mid 24 160 (start (sized x) .args .state .now) (s .command .last .1 .1 .1 .1 .1 .0) (s .command .kept .1 .1 .1 .1 .1 .0)
-    ∙ sound-size _ _ (sound-at x))
+    (λ c κs. search needs)
+    (λ c κs. size-at (c .before .before .before .before .before .before .before .before .before .before .before .before .before .before))
     (λ c κs. search needs)
     (λ c. search needs)
     (λ c. search needs)
     (λ c. search needs)
     (λ c. search needs)
     (λ c. search needs)
-    (λ c. let s = c .before .before .before .before .before .before .before .before .before .before .before .before .before .before .before in let d = s .before .before .before .before .before .before in let x = d .before .before in let a = start (sized x) in
+    (λ c. let s = c .before .before .before .before .before .before .before .before .before .before .before .before .before .before .before .before .before .before in let d = s .before .before .before .before .before .before in let x = found s in let a = start (sized x) in
     let k = s .command .last .1 .1 .1 .1 .1 .0 in
     read-so (a .args .state .now) (stores a) (sound-at x) (d .decode .ensures) (call a) k (s .command .ensures) (c .pack .ensures)
     (c .before .before .before .encode .ensures k ∙ laid (a .args .state .now) k (s .command .result .printer) (sound-size _ _ (sound-at x))
-    (s .command .kept .1 .1 .1 .1 .1 .0))))
+    (s .command .kept .1 .1 .1 .1 .1 .0)))
+    (λ c κs. size-at (c .before .before .before .before .before .before .before .before .before .before .before .before .before .before .before))
+    (λ c κs. search needs)
+    (λ c. search needs)
+    (λ c. search needs)
+    (λ c. search needs)
+    (λ c. search needs)
+    (λ c. search needs)
+    (λ c. let s = c .before .before .before .before .before .before .before .before .before .before .before .before .before .before .before .before .before .before .before in let d = s .before .before .before .before .before .before in let x = found s in let a = start (sized x) in
+    let k = s .command .last .1 .1 .1 .1 .1 .0 in
+    read-so (a .args .state .now) (stores a) (sound-at x) (d .decode .ensures) (call a) k (s .command .ensures) (c .pack2 .ensures)
+    (c .before .before .before .put-sense .ensures
+    ∙ sense-so (a .args .state .now) (stores a) (sound-at x) (d .decode .ensures) (call a) k (s .command .ensures)
+    (sym (c .before .before .before .before .before .before .before .is-accepted .ensures) ∙ c .before .before .before .before .before .before .if3 .left) (low-at (sized x)) (s .command .kept .1 .1 .1 .1 .1 .0))))
