@@ -5,25 +5,16 @@ use borrow.Author.Needs.{needs}
 use Rattle.order.proofs.commands.decode.Statement.{statement}
 use Rattle.order.proofs.commands.decode.Tie as tie
 
-is-skip-requires : tie.Need-is-skip-requires
-is-skip-requires c κs = search needs
-
-is-skip-requires-2 : tie.Need-is-skip-requires-2
-is-skip-requires-2 c κs = search needs
-
-look-up-requires : tie.Need-look-up-requires
-look-up-requires c κs = search needs
-
 pub decode-spec : {M : Type 1} → statement M
 unfolding decode
 decode-spec =
     tie.close
-    (tie.spec is-skip-requires (λ c. simp (sym (c .before .is-skip .ensures) ∙ c .if1 .taken)) is-skip-requires-2 (λ c. simp (
+    (tie.spec (λ c κs. search needs) (λ c. simp (sym (c .before .is-skip .ensures) ∙ c .if1 .taken)) (λ c κs. search needs) (λ c. simp (
       sym
           (c .before .before .before .is-skip .ensures) ∙ c .before .before .if1 .left,
       sym (c .before .is-skip2 .ensures)
           ∙ c .if2 .taken,
-    )) look-up-requires (λ c. simp (
+    )) (λ c κs. search needs) (λ c. simp (
       sym (c .before .before .before .before .is-skip .ensures)
           ∙ c .before .before .before .if1 .left,
       sym (c .before .before .is-skip2 .ensures) ∙ c .before .if2 .left,
