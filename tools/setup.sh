@@ -82,15 +82,35 @@ end_progress() {
     [ ! -t 2 ] || printf '\r\033[K' >&2
 }
 
+# The crates that a crate stands on.
+below() { # NAME
+    listed=$(sed -n "s/^$1://p" crates.txt)
+    for other in $listed; do
+        [ ! -d "crates/$other" ] || echo "$other"
+    done
+}
+
+# Removes the stamps that are older than a source of what they stand for: rt proves that anew, and a stamp is then the sign that it has.
+drop_old_stamps() {
+    for stamp in target/stamp/*; do
+        name=${stamp##*/}
+        # shellcheck disable=SC2046
+        [ -z "$(find crates.txt "crates/$name" $(below "$name" | sed 's,^,crates/,') -newer "$stamp" 2>/dev/null)" ] || rm "$stamp"
+    done
+}
+
 # Proves the crates that the library stands on, several at a time, then the library, and writes its archive.
 prove_library() {
     # shellcheck disable=SC2046
     rt check $(sed -n 's/^trestlepip://p' crates.txt) && rt staticlib trestlepip
 }
 
-# The library, unless its archive is newer than all sources. What rt says is kept, and shown if it refuses.
+# Whether the library's archive is there, and newer than all sources.
+is_built() { [ -e "$LIBRARY" ] && [ -z "$(find crates crates.txt -newer "$LIBRARY")" ]; }
+
+# The library, unless it is built. What rt says is kept, and shown if it refuses.
 build_library() {
-    if [ -e "$LIBRARY" ] && [ -z "$(find crates crates.txt -newer "$LIBRARY")" ]; then return; fi
+    ! is_built || return 0
     mkdir -p target/c
     status=0
     show_progress
