@@ -1,13 +1,14 @@
 // Obeys a script, a line a call of the library, and prints each line with what it gave. The script says at its top how it is written.
 mod bench;
-mod show;
-mod words;
 
 use libc::STDIN_FILENO;
+use script::show;
+use script::stores;
+use script::words;
 
 // Line after line, to the end or to one that cannot be read. The stores begin with bytes that no Start leaves.
 fn run(script: &[u8]) {
-    let mut lent = bench::USUAL;
+    let mut lent = stores::USUAL;
     let mut state = [4u8; 185];
     let mut page = [5u8; 26929];
     let mut legends = [6u8; 8193];

@@ -2,8 +2,8 @@
 use Prim.Native.Nat.{_≤_, _-_}
 use lib.ListN.{length}
 use borrow.Author.Needs.{needs}
-use Rattle.rows.proofs.words.until.Statement.{statement}
-use Rattle.rows.proofs.words.until.Tie as tie
+use Rattle.script.proofs.words.until.Statement.{statement}
+use Rattle.script.proofs.words.until.Tie as tie
 
 abbrev Inv-loop : tie.InvT-loop
 Inv-loop s at mark i₀ i = (at ≤ i) × (i ≤ length s)

@@ -3,8 +3,8 @@ use mathlib.Core.Path.{_≡_}
 use Prim.Native.Nat.{_-_}
 use lib.ListN.{length}
 use borrow.Author.Needs.{needs}
-use Rattle.rows.proofs.words.bytes.Statement.{statement}
-use Rattle.rows.proofs.words.bytes.Tie as tie
+use Rattle.script.proofs.words.bytes.Statement.{statement}
+use Rattle.script.proofs.words.bytes.Tie as tie
 
 abbrev Inv-loop : tie.InvT-loop
 Inv-loop line letter out₀ n₀ at₀ out n at = length out ≡ length out₀

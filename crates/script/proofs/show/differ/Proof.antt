@@ -2,8 +2,8 @@
 use Prim.Native.Nat.{_≤_, _-_}
 use lib.ListN.{length}
 use borrow.Author.Needs.{needs}
-use Rattle.rows.proofs.show.differ.Statement.{statement}
-use Rattle.rows.proofs.show.differ.Tie as tie
+use Rattle.script.proofs.show.differ.Statement.{statement}
+use Rattle.script.proofs.show.differ.Tie as tie
 
 abbrev Inv-loop : tie.InvT-loop
 Inv-loop name a b end n₀ i₀ n i = (n ≤ i) × ((i ≤ end) × ((end ≤ length a) × (end ≤ length b)))

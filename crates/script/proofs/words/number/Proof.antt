@@ -2,8 +2,8 @@
 use Prim.Native.Nat.{_≤_, _-_}
 use lib.ListN.{length}
 use borrow.Author.Needs.{needs}
-use Rattle.rows.proofs.words.number.Statement.{statement}
-use Rattle.rows.proofs.words.number.Tie as tie
+use Rattle.script.proofs.words.number.Statement.{statement}
+use Rattle.script.proofs.words.number.Tie as tie
 
 abbrev Inv-loop : tie.InvT-loop
 Inv-loop word value₀ i₀ digits value i = (value ≤ 0xFFFF) × (i ≤ length word)

@@ -1,6 +1,6 @@
 // What the lines of output are made of. Numbers are decimal, bytes two hexadecimal digits.
-use crate::bench::Page;
-use crate::bench::State;
+use crate::stores::Page;
+use crate::stores::State;
 use libc::STDOUT_FILENO;
 
 pub fn text(s: &[u8]) {
