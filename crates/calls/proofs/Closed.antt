@@ -24,8 +24,7 @@ use Rattle.movement.proofs.MovementLaws.{down, over, Went, stays, goes, went}
 use Rattle.line.specs.declared.Slots.{Slots}
 use Rattle.line.specs.Line.{slotSize, tableSize, pageSize, serving, translated, slotsInRange}
 use Rattle.line.proofs.LineLaws.{length-translated, length-lineCells, length-pageWritten, length-putSlot}
-use Rattle.copies.specs.Copies.{Copies}
-use Rattle.copies.specs.Copies.{sequenceCheck, numberCheck, tableCheck, withSequence, withReference, copiesInRange}
+use Rattle.copies.specs.Copies.{Copies, sequenceCheck, numberCheck, tableCheck, withSequence, withReference, copiesInRange}
 use Rattle.legends.specs.Legends.{legendCheck}
 use Rattle.copies.proofs.CopiesLaws.{table-long, sequence-fits, number-some}
 use Rattle.legends.proofs.LegendLaws.{stored-size, stored-ok}

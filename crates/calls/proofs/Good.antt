@@ -11,20 +11,17 @@ use Rattle.seq.proofs.Laws.{every-at, padded-take, padded-zero}
 use Rattle.numbers.specs.declared.Checked.the-variants.{Sound}
 use Rattle.numbers.specs.Numbers.{isSound}
 use Rattle.numbers.proofs.Laws.{sound-is}
-use Rattle.form.specs.Form.{Forms}
 use Rattle.form.specs.declared.Layout.{Layout}
-use Rattle.form.specs.Form.{formLengths, formOk, fcbCheck, layoutOf, printable, startFcb, fcbNow, formsOf, formsInRange}
+use Rattle.form.specs.Form.{Forms, formLengths, formOk, fcbCheck, layoutOf, printable, startFcb, fcbNow, formsOf, formsInRange}
 use Rattle.form.proofs.FormLaws.{form-listed, fcb-fits, some-line, start-sound}
 use Rattle.line.specs.Line.{pageSize, tableSize, startSlots, slotsInRange}
 use Rattle.line.proofs.LineLaws.{length-startTables}
-use Rattle.copies.specs.Copies.{Copies}
-use Rattle.copies.specs.Copies.{pairsOf, copiesOf, sequenceCheck, sequenceNow, startCopies, copiesInRange}
+use Rattle.copies.specs.Copies.{Copies, pairsOf, copiesOf, sequenceCheck, sequenceNow, startCopies, copiesInRange}
 use Rattle.legends.specs.Legends.{legendSize, legendsOk, noLegends}
 use Rattle.legends.proofs.LegendLaws.{none-ok}
 use Rattle.calls.specs.declared.Fixed.{Fixed}
 use Rattle.calls.specs.declared.Sheet.{Sheet}
-use Rattle.calls.specs.Core.{State}
-use Rattle.calls.specs.Core.{Stores, Core, sizesOk, linesNow, P, laidOut}
+use Rattle.calls.specs.Core.{State, Stores, Core, sizesOk, linesNow, P, laidOut}
 use Rattle.calls.specs.Contents.{lineOk, rangesOk, dueOk, markOk, coreOk}
 use Rattle.calls.specs.Reset.{blankSheet, noCells, resetState, resetStores}
 

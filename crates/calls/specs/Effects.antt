@@ -21,14 +21,13 @@ use Rattle.line.specs.Line.{slotSize, putSlot, serving, translated, lineCells, 
 use Rattle.copies.specs.Copies.{tableCheck, sequenceCheck, numberCheck, withSequence, withReference}
 use Rattle.legends.specs.Legends.{legendCheck, storedLegends, legendText}
 use Rattle.calls.specs.declared.Sheet.{Sheet}
-use Rattle.calls.specs.Core.{State}
 use Rattle.calls.specs.declared.Load.{Load}
 use Rattle.calls.specs.declared.Load.the-variants.{Fcb, TranslateTable, CopyModification, OverlaySequence, CopyNumber}
 use Rattle.calls.specs.declared.Control.{Control}
 use Rattle.calls.specs.declared.Control.the-variants.{NoOp, SenseIo, Initialize, Clear, Block, Allow, Select}
 use Rattle.calls.specs.declared.Command.{Command}
 use Rattle.calls.specs.declared.Command.the-variants.{Write, Move, Controls, Loads, Unlisted}
-use Rattle.calls.specs.Core.{Core, withState, withPage, withLegends, withTables, withBlocked, withForms, withSlots, withCopies, withSheet, linesNow, started}
+use Rattle.calls.specs.Core.{State, Core, withState, withPage, withLegends, withTables, withBlocked, withForms, withSlots, withCopies, withSheet, linesNow, started}
 use Rattle.calls.specs.Reset.{reset, senseBytes}
 
 -- Calls: what a call answers and does: to the core, to the sense, and to the front of its lent buffer (Sense's reply, Compose's output).

@@ -10,8 +10,7 @@ use Rattle.copies.specs.Copies.{startCopies}
 use Rattle.legends.specs.Legends.{noLegends}
 use Rattle.calls.specs.declared.Fixed.{Fixed}
 use Rattle.calls.specs.declared.Sheet.{Sheet}
-use Rattle.calls.specs.Core.{State}
-use Rattle.calls.specs.Core.{Stores, Core, started}
+use Rattle.calls.specs.Core.{State, Stores, Core, started}
 
 -- A sheet with nothing written and nothing waiting, and a page with nothing on it.
 unfoldable pub blankSheet : ℕ → Sheet

@@ -10,8 +10,7 @@ use Rattle.numbers.specs.declared.Refusal.the-variants.{Accepted, BadStore, Bad
 use Rattle.numbers.specs.Numbers.{noSense, isAccepted, only}
 use Rattle.form.specs.Form.{formOk, fcbSize}
 use Rattle.copies.specs.Copies.{pairSize}
-use Rattle.calls.specs.Core.{State}
-use Rattle.calls.specs.Core.{Stores, sizesOk, World}
+use Rattle.calls.specs.Core.{State, Stores, sizesOk, World}
 use Rattle.calls.specs.Reset.{fresh}
 use Rattle.calls.specs.Calls.{Outcome}
 

@@ -22,8 +22,7 @@ use Rattle.form.proofs.FormLaws.{form-listed, few-lines}
 use Rattle.movement.proofs.MovementLaws.{skipped-most}
 use Rattle.line.specs.declared.Causes.{Causes}
 use Rattle.line.specs.Line.{causeByte}
-use Rattle.copies.specs.Copies.{Copies}
-use Rattle.copies.specs.Copies.{badPair, sequenceCheck, markIn, sequenceNow, copyCount, copyMark}
+use Rattle.copies.specs.Copies.{Copies, badPair, sequenceCheck, markIn, sequenceNow, copyCount, copyMark}
 use Rattle.copies.proofs.CopiesLaws.{few-copies, number-most}
 use Rattle.calls.specs.declared.Command.{Command}
 use Rattle.calls.specs.declared.Command.the-variants.{Write, Move, Controls, Loads, Unlisted}

@@ -1,5 +1,5 @@
 -- Each part as the reset has it; a form that Start takes is a listed one.
-use mathlib.Core.Path.{refl, ap, _∙_}
+use mathlib.Core.Path.{ap, _∙_}
 use Prim.Native.Nat.{ℕ}
 use lib.ListN.{replicate}
 use Rattle.form.proofs.FormLaws.{form-listed}

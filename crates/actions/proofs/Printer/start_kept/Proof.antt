@@ -1,9 +1,9 @@
 -- Two bytes set among 160 zeros.
-use mathlib.Core.Path.{_≡_, ap, _∙_}
+use mathlib.Core.Path.{ap, _∙_}
 use Prim.Native.Nat.{ℕ}
 use lib.ListN.{replicate}
 use borrow.Author.Needs.{needs}
-use Rattle.seq.specs.Words.{zeros, padded}
+use Rattle.seq.specs.Words.{padded}
 use Rattle.copies.specs.Copies.{startCopies}
 use Rattle.actions.specs.Whole.{pairsIn, fcbIn}
 use Rattle.actions.proofs.Printer.start_kept.Statement.{statement}
