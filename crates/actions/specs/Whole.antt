@@ -25,6 +25,7 @@ lentWith kept m = record { kept = kept; stores = m }
 abbrev pub lentOf : List ℕ → List ℕ → List ℕ → List ℕ → Lent
 lentOf kept page legends tables = lentWith kept (storesOf page legends tables)
 
+-- 16 bytes of pairs, and 144 of the FCB.
 abbrev pub keptSize : ℕ
 keptSize = 160
 

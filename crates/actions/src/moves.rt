@@ -1,5 +1,5 @@
 // What accepted commands do, a method each: document 01, "Movement", "Writing a line", "Copies and legends", "Reset and sense". Each takes the
-// stores that it may change or reads, and answers for any others.
+// lent bytes that it may change or reads, and answers for any others.
 use crate::Printer;
 use crate::Step;
 use calls::Sheet;

@@ -19,7 +19,7 @@ use Rattle.movement.specs.declared.Motion.{Motion}
 use Rattle.movement.specs.declared.Moved.{Moved}
 use Rattle.form.specs.Form.{fcbCheck}
 use Rattle.movement.specs.Movement.{toTop}
-use Rattle.form.proofs.FormLaws.{form-listed, few-lines}
+use Rattle.form.proofs.FormLaws.{form-listed}
 use Rattle.movement.proofs.MovementLaws.{down, over, Went, stays, goes, went}
 use Rattle.line.specs.declared.Slots.{Slots}
 use Rattle.line.specs.Line.{slotSize, tableSize, pageSize, serving, translated, slotsInRange}
@@ -45,7 +45,7 @@ use Rattle.calls.specs.Lists.{worldAfter}
 use Rattle.calls.proofs.Accepted.{Taken, taken, startable}
 use Rattle.calls.proofs.Refused.{by-outcome}
 use Rattle.calls.proofs.Answers.{was-free, names, command-number}
-use Rattle.calls.proofs.Good.{CopiesGood, SheetGood, Good, ok, forms-good, forms-line, blank-good, no-cells, reset-good}
+use Rattle.calls.proofs.Good.{CopiesGood, SheetGood, Good, ok, forms-good, forms-line, blank-good, no-cells, reset-good, few-now}
 
 -- The core with another sheet, and another page as long.
 sheet-good : {k : Core} (x : Sheet) (p : List ℕ) → Good k → SheetGood (P (k .state)) x → length p ≡ pageSize → Good (withPage (withState k (withSheet (k .state) x)) p)
@@ -84,10 +84,6 @@ good-move : (k : Core) (m : Motion) → k .state .sheet .waiting ≡ false → G
 unfolding doMove done
 good-move k m w g =
     sheet-good _ (k .stores .page) g (moved-good _ false (k .state .sheet) (moveOf (k .state) m) w (g .sheet .due) (move-on k m g)) (g .sizes .page)
-
-few-now : (k : Core) → Good k → P (k .state) ≤ 132
-unfolding linesNow
-few-now k g = few-lines (k .state .fixed .length) _ (form-listed (k .state .fixed .length) (k .state .fixed .pitches) (g .fixed)) (g .forms .taken)
 
 written-size : (k : Core) (r : List ℕ) → length r ≤ 204 → Good k → length (written k r .stores .page) ≡ pageSize
 unfolding written

@@ -13,8 +13,8 @@ use Rattle.numbers.specs.Numbers.{isSound}
 use Rattle.numbers.proofs.Laws.{sound-is}
 use Rattle.form.specs.declared.Layout.{Layout}
 use Rattle.form.specs.Form.{Forms, formLengths, formOk, fcbCheck, layoutOf, printable, startFcb, fcbNow, formsOf, formsInRange}
-use Rattle.form.proofs.FormLaws.{form-listed, fcb-fits, some-line, start-sound}
-use Rattle.line.specs.Line.{pageSize, tableSize, startSlots, slotsInRange}
+use Rattle.form.proofs.FormLaws.{form-listed, fcb-fits, few-lines, some-line, start-sound}
+use Rattle.line.specs.Line.{pageLines, pageSize, tableSize, startSlots, slotsInRange}
 use Rattle.line.proofs.LineLaws.{length-startTables}
 use Rattle.copies.specs.Copies.{Copies, pairsOf, copiesOf, sequenceCheck, sequenceNow, startCopies, copiesInRange}
 use Rattle.legends.specs.Legends.{legendSize, legendsOk, noLegends}
@@ -155,3 +155,10 @@ module _ (f : Fixed) (blocked : Bool) (page : List ℕ) (e : FixedGood f) (size 
 pub form-lines : (s : State) (w : Layout) → w ≡ laidOut s → w .lines ≡ P s
 unfolding linesNow layoutOf
 form-lines s w e = ap (λ (v : Layout). v .lines) e
+
+-- They are no more than a page has room for.
+pub few-now : (k : Core) → Good k → P (k .state) ≤ pageLines
+unfolding linesNow
+few-now k g =
+    let f = k .state .fixed in
+    few-lines (f .length) _ (form-listed (f .length) (f .pitches) (g .fixed)) (g .forms .taken)

@@ -1,19 +1,19 @@
 -- Document 01, "Numbers": a number is given exactly when the table says, and a refused call changes nothing but the sense shown.
 use Prim.Native.Nat.{ℕ}
-use mathlib.Core.Path.{_≡_, ap, _∙_}
-use mathlib.Core.Bool.{true, false, and-false}
-use mathlib.Core.List.{List, []}
+use mathlib.Core.Path.{_≡_, refl, ap, _∙_}
+use mathlib.Core.Bool.{Bool, true, false, and-false}
+use mathlib.Core.List.{List, [], _∷_}
 use Rattle.seq.specs.Words.{firstOr, when, every}
 use Rattle.seq.proofs.Laws.{First, first-is, first-only, cond-has}
 use Rattle.numbers.specs.declared.Refusal.{Refusal}
-use Rattle.numbers.specs.declared.Refusal.the-variants.{Accepted, BadStore}
+use Rattle.numbers.specs.declared.Refusal.the-variants.{Accepted, NoPage, BadIndex, TooShort, BadStore}
 use Rattle.numbers.specs.Numbers.{senseAfter, rowOf, isAccepted, only}
 use Rattle.numbers.proofs.Laws.{tells, sense-kept}
 use Rattle.form.specs.Form.{formLengths, formOk}
 use Rattle.calls.specs.Core.{Stores, Core, World, sizesOk}
 use Rattle.calls.specs.Contents.{rangesOk, coreOk}
 use Rattle.calls.specs.Effects.{Effect, refused}
-use Rattle.calls.specs.Calls.{Call, command, compose, release, testsOf, refusalOf, perform, sizeOf, effect, lent, Outcome, step}
+use Rattle.calls.specs.Calls.{Call, command, compose, release, testsOf, refusalOf, doCompose, perform, sizeOf, effect, lent, Outcome, step}
 use Rattle.calls.specs.Start.{startTests, startRefusal, noState, noPrinter, startOutcome}
 
 -- What a call does is what its refusal says, or what the accepted call does.
@@ -42,6 +42,22 @@ refused-step w c e = rw (refused-effect (w .core) c e)
 -- Refusals but 1, 3 and 5 leave the sense too.
 pub refused-keeps : (w : World) (c : Call) → isAccepted (refusalOf (w .core) c) ≡ false → tells (refusalOf (w .core) c) ≡ false → step w c .world ≡ w
 refused-keeps w c e h = ap (λ (o : Outcome). o .world) (refused-step w c e) ∙ rw (sense-kept (sizeOf c) (refusalOf (w .core) c) h)
+
+-- Compose leaves all as it was: none of its refusals touches the sense.
+compose-tells : (a b c d : Bool)
+    → tells (firstOr Accepted (when a BadStore ∷ when b NoPage ∷ when c BadIndex ∷ when d TooShort ∷ [])) ≡ false
+unfolding firstOr when rowOf
+compose-tells true b c d = refl
+compose-tells false true c d = refl
+compose-tells false false true d = refl
+compose-tells false false false true = refl
+compose-tells false false false false = refl
+
+pub compose-keeps : (w : World) (n : ℕ) (out : List ℕ) → step w (compose n out) .world ≡ w
+unfolding step refused perform doCompose refusalOf
+compose-keeps w n out =
+    by-outcome (λ (e : Effect). record { core = e .core; sense = senseAfter (w .sense) (e .sense) } ≡ w) (w .core) (compose n out) (λ a. refl)
+    (λ a. rw (sense-kept 0 (refusalOf (w .core) (compose n out)) (compose-tells _ _ _ _)))
 
 -- The number given is that of the first test of the order which holds, and only of that: Accepted exactly where none does.
 pub first-given : (k : Core) (c : Call) → First Accepted (testsOf k c) (refusalOf k c)

@@ -8,12 +8,11 @@ use borrow.Author.Tests.{leb-true}
 use Rattle.seq.proofs.Laws.{every-at}
 use Rattle.form.specs.declared.Layout.{Layout}
 use Rattle.form.specs.Form.{Forms, fcbNow, layoutOf, formsInRange}
-use Rattle.form.proofs.FormLaws.{form-listed, few-lines}
 use Rattle.form.proofs.LayoutLaws.{layout-fits}
 use Rattle.line.specs.Line.{slotsInRange}
 use Rattle.calls.specs.Core.{Core, linesNow, laidOut}
 use Rattle.calls.specs.Contents.{coreOk}
-use Rattle.calls.proofs.Good.{good}
+use Rattle.calls.proofs.Good.{good, few-now}
 use Rattle.actions.specs.Whole.{Ready}
 
 kept-short : (f : Forms) → formsInRange f ≡ true → length (fcbNow f) ≤ 144
@@ -26,13 +25,12 @@ unfolding slotsInRange linesNow layoutOf
 ready k w e h =
     let g = good k h in
     let s = k .state in
-    let l = form-listed _ (s .fixed .pitches) (g .fixed) in
     rw e
     (record {
       laid = refl;
       form = g .fixed;
       fits = omega (arith, layout-fits (s .fixed .length) (fcbNow (s .forms)), kept-short (s .forms) (g .forms .range));
-      few = few-lines _ _ l (g .forms .taken);
+      few = few-now k g;
       low = g .sheet .low;
       high = g .sheet .high;
       slot = leb-true _ 3 (every-at 1 _ (g .slots));

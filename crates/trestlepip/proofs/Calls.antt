@@ -2,21 +2,19 @@
 use Prim.Native.Nat.{ℕ, _<_}
 use mathlib.Core.Path.{_≡_, refl, sym, ap, _∙_}
 use mathlib.Core.Bool.{Bool, true, false, cond, _&&_}
-use mathlib.Core.List.{List, [], _∷_, _++_}
+use mathlib.Core.List.{List, [], _++_}
 use lib.Dec.{eqb}
 use lib.ListN.{length, take, drop}
-use Rattle.seq.specs.Words.{when, firstOr, zeros}
+use Rattle.seq.specs.Words.{zeros}
 use Rattle.seq.proofs.Laws.{and-left, and-right}
-use Rattle.numbers.specs.declared.Sense.{Sense}
-use Rattle.numbers.specs.declared.Refusal.the-variants.{Accepted, NoPage, BadIndex, TooShort, BadStore}
-use Rattle.numbers.specs.Numbers.{rowOf, isAccepted, only, senseAfter}
+use Rattle.numbers.specs.declared.Refusal.the-variants.{BadStore}
+use Rattle.numbers.specs.Numbers.{isAccepted, only}
 use Rattle.form.specs.declared.Layout.{Layout}
-use Rattle.calls.specs.Core.{Stores, State, World, sizesOk, laidOut}
+use Rattle.calls.specs.Core.{Stores, State, sizesOk, laidOut}
 use Rattle.calls.specs.Contents.{coreOk}
-use Rattle.calls.specs.Effects.{Effect, refused}
-use Rattle.calls.specs.Calls.{Call, compose, doCompose, perform, lent, refusalOf, Outcome, step}
+use Rattle.calls.specs.Calls.{Call, compose, lent, Outcome, step}
 use Rattle.calls.specs.Start.{startOutcome, noState, noPrinter}
-use Rattle.calls.proofs.Refused.{by-outcome, nine, refused-step}
+use Rattle.calls.proofs.Refused.{nine, refused-step, compose-keeps}
 use Rattle.calls.proofs.Answers.{names}
 use Rattle.actions.specs.declared.Printer.{Printer}
 use Rattle.actions.specs.declared.Step.{Step}
@@ -117,22 +115,7 @@ module _ (form : ℕ) (pitches s : List ℕ) (m : Stores) where
   unfolding startBytes
   no-room-so e a = rw (e, a)
 
--- Compose leaves the printer as it was: none of its refusals touches the sense.
-compose-sense : (n : ℕ) (s : Sense) (a b c d : Bool)
-    → senseAfter s (rowOf n (firstOr Accepted (when a BadStore ∷ when b NoPage ∷ when c BadIndex ∷ when d TooShort ∷ [])) .sense) ≡ s
-unfolding firstOr when rowOf
-compose-sense n s true b c d = refl
-compose-sense n s false true c d = refl
-compose-sense n s false false true d = refl
-compose-sense n s false false false true = refl
-compose-sense n s false false false false = refl
-
-compose-keeps : (w : World) (n : ℕ) (out : List ℕ) → step w (compose n out) .world ≡ w
-unfolding step refused perform doCompose refusalOf
-compose-keeps w n out =
-    by-outcome (λ (e : Effect). record { core = e .core; sense = senseAfter (w .sense) (e .sense) } ≡ w) (w .core) (compose n out) (λ a. refl)
-    (λ a. ap (λ (s : Sense). record { core = w .core; sense = s }) (compose-sense 0 (w .sense) _ _ _ _))
-
+-- Compose leaves the printer as it was.
 pub compose-world : {p : Printer} {r : Step} {buffer : List ℕ} (k : List ℕ) {m : Stores} (n : ℕ) (out : List ℕ)
     → outcome r buffer (lentWith k m) ≡ step (worldOf p (lentWith k m)) (compose n out)
     → worldOf (r .printer) (lentWith k m) ≡ worldOf p (lentWith k m)

@@ -18,7 +18,6 @@ use Rattle.movement.specs.declared.Motion.{Motion}
 use Rattle.movement.specs.declared.Motion.the-variants.{Space, Skip}
 use Rattle.movement.specs.declared.Moved.{Moved}
 use Rattle.movement.specs.Movement.{Spot, entered, spaced, moved, still, toTop}
-use Rattle.form.proofs.FormLaws.{form-listed, few-lines}
 use Rattle.movement.proofs.MovementLaws.{skipped-most}
 use Rattle.line.specs.declared.Causes.{Causes}
 use Rattle.line.specs.Line.{causeByte}
@@ -26,13 +25,13 @@ use Rattle.copies.specs.Copies.{Copies, badPair, sequenceCheck, markIn, sequenc
 use Rattle.copies.proofs.CopiesLaws.{few-copies, number-most}
 use Rattle.calls.specs.declared.Command.{Command}
 use Rattle.calls.specs.declared.Command.the-variants.{Write, Move, Controls, Loads, Unlisted}
-use Rattle.calls.specs.Core.{Stores, Core, World, linesNow, P, started}
+use Rattle.calls.specs.Core.{Stores, Core, World, linesNow, started}
 use Rattle.calls.specs.Commands.{decode, controlTraits}
 use Rattle.calls.specs.Contents.{coreOk}
 use Rattle.calls.specs.Effects.{Effect, refused, done, moveOf}
 use Rattle.calls.specs.Calls.{Call, command, compose, release, movement, refusalOf, copyAt, doCompose, doRelease, perform, sizeOf, lent, Outcome, step}
 use Rattle.calls.specs.Start.{startOutcome}
-use Rattle.calls.proofs.Good.{good}
+use Rattle.calls.proofs.Good.{good, few-now}
 use Rattle.calls.proofs.Accepted.{taken, composable}
 use Rattle.calls.proofs.Refused.{by-outcome}
 use Rattle.calls.proofs.Answers.{Shape, sets, quiet, shape}
@@ -63,17 +62,11 @@ moved-few ls c (Skip channel) a b = skipped-most ls c b (omega arith) channel
 
 -- a command's movement, on contents that a printer can have, and what any listed command tells
 module _ (k : Core) (ok : coreOk k ≡ true) where
-  form-few : P (k .state) ≤ 132
-  unfolding linesNow
-  form-few =
-      let g = good k ok in
-      few-lines (k .state .fixed .length) _ (form-listed (k .state .fixed .length) (k .state .fixed .pitches) (g .fixed)) (g .forms .taken)
-
   move-few : (m : Motion) → moveOf (k .state) m .lines < 256
   unfolding moveOf
   move-few m =
       let s = good k ok .sheet in
-      omega (arith, form-few, moved-few (linesNow (k .state)) (k .state .sheet .line) m (s .low) (s .high))
+      omega (arith, few-now k (good k ok), moved-few (linesNow (k .state)) (k .state .sheet .line) m (s .low) (s .high))
 
   movement-few : (c : Command) → movement k c .lines < 256
   unfolding movement still toTop
