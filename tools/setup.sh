@@ -137,5 +137,6 @@ REFUSALS="host/test_refusals.c $HOST"
 SECOND='tests/second/second.c tests/second/state.c tests/second/form.c tests/second/line.c tests/second/copies.c'
 ROWS=tests/second/rows.c
 GENERATOR='tests/second/calls.c tests/second/chance.c tests/second/records.c tests/second/damage.c'
-DRIVE="tests/second/drive.c tests/second/counts.c $GENERATOR"
+COMPARISON='tests/second/compare.c tests/second/report.c tests/second/counts.c'
+DRIVE="tests/second/drive.c tests/second/run.c tests/second/lent.c tests/second/programs.c $COMPARISON $GENERATOR"
 BENCH='benches/bench.c benches/works.c benches/sides.c benches/plain.c'

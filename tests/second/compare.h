@@ -1,0 +1,21 @@
+/* Comparing: what a call left in the library's buffers, with what it must have left. */
+#ifndef COMPARE_H
+#define COMPARE_H
+
+#include "run.h"
+
+/* Where two buffers differ, or a byte is not what it must be. */
+struct difference {
+    const char *what;
+    const char *part;
+    size_t at;
+    unsigned library, expected;
+};
+
+/* Whether a buffer that the call was lent differs from the second program's, or a canary was written; tells where. */
+bool buffers_differ(const struct run *r, struct difference *d);
+
+/* Whether a refused call changed what it must not, whatever the second program did; tells where. */
+bool refusal_changes(const struct run *r, struct difference *d);
+
+#endif

@@ -1,0 +1,83 @@
+/* A call made on the library, whose faults are caught, or on the second program. */
+#define _DEFAULT_SOURCE 1
+
+#include "programs.h"
+
+#include "../../include/trestlepip.h"
+#include "second.h"
+
+#include <setjmp.h>
+#include <signal.h>
+#include <string.h>
+
+/* The four calls of one program. */
+struct program {
+    uint64_t (*start)(uint32_t, uint32_t, uint32_t, uint32_t, uint32_t, uint8_t *, size_t, uint8_t *, size_t, uint8_t *, size_t, uint8_t *, size_t);
+    uint64_t (*command)(uint8_t, const uint8_t *, size_t, uint8_t *, size_t,
+            uint8_t *, size_t, uint8_t *, size_t, uint8_t *, size_t, uint8_t *, size_t);
+    uint64_t (*compose)(uint32_t, uint8_t *, size_t,
+            const uint8_t *, size_t, const uint8_t *, size_t, const uint8_t *, size_t, const uint8_t *, size_t);
+    uint64_t (*release)(uint8_t *, size_t, uint8_t *, size_t, uint8_t *, size_t, uint8_t *, size_t);
+};
+
+static const struct program library = { trestlepip_start, trestlepip_command, trestlepip_compose, trestlepip_release };
+static const struct program second = { second_start, second_command, second_compose, second_release };
+
+/* What a call is handed: null for some empty buffers; a store of wrong size from the begin of the right one, or up to its end. */
+static uint8_t *handed(const struct set *s, unsigned part, size_t length, const struct call *c)
+{
+    if (length == 0 && c->null_if_empty)
+        return NULL;
+    return last_bytes(s, part, part < STORES && c->at_begin ? store_size[part] : length);
+}
+
+#define HANDED(part, length) handed(s, part, length, c), length
+#define HANDED_STORES HANDED(STATE, c->store_len[STATE]), HANDED(PAGE, c->store_len[PAGE]), \
+    HANDED(LEGENDS, c->store_len[LEGENDS]), HANDED(TABLES, c->store_len[TABLES])
+
+static uint64_t make_call(const struct program *p, const struct set *s, const struct call *c)
+{
+    switch (c->kind) {
+    case CALL_START: return p->start(c->form, c->pitch[0], c->pitch[1], c->pitch[2], c->pitch[3], HANDED_STORES);
+    case CALL_COMMAND: return p->command(c->command, HANDED(RECORD, c->record_len), HANDED(REPLY, c->buffer_len), HANDED_STORES);
+    case CALL_COMPOSE: return p->compose(c->copy, HANDED(OUT, c->buffer_len), HANDED_STORES);
+    default: return p->release(HANDED_STORES);
+    }
+}
+
+static sigjmp_buf fault_return;
+static volatile sig_atomic_t in_library;
+
+/* A fault in the library comes back to the driver; any other ends the program as it would have. */
+static void on_fault(int number)
+{
+    if (in_library)
+        siglongjmp(fault_return, number);
+    signal(number, SIG_DFL);
+    raise(number);
+}
+
+void catch_faults(void)
+{
+    struct sigaction action;
+    memset(&action, 0, sizeof action);
+    action.sa_handler = on_fault;
+    sigaction(SIGSEGV, &action, NULL);
+    sigaction(SIGBUS, &action, NULL);
+}
+
+/* The library's answer; false if it touched memory that it was not lent. */
+bool call_library(const struct set *s, const struct call *c, uint64_t *answer)
+{
+    if (sigsetjmp(fault_return, 0) != 0)
+        return false;
+    in_library = 1;
+    *answer = make_call(&library, s, c);
+    in_library = 0;
+    return true;
+}
+
+uint64_t call_second(const struct set *s, const struct call *c)
+{
+    return make_call(&second, s, c);
+}

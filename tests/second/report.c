@@ -1,0 +1,66 @@
+/* The report of a difference, in print. */
+#include "report.h"
+
+#include "../../include/trestlepip.h"
+
+#include <stdio.h>
+
+static void print_bytes(const char *name, const uint8_t *bytes, size_t count)
+{
+    size_t shown = count < 512 ? count : 512;
+    printf("%s, %zu bytes:", name, count);
+    for (size_t i = 0; i < shown; i++)
+        printf("%s%02X", i % 32 == 0 ? "\n    " : " ", bytes[i]);
+    printf("%s\n", shown < count ? " ..." : "");
+}
+
+static void print_lengths(const struct call *c)
+{
+    printf("lengths: state %zu, page %zu, legends %zu, tables %zu, reply or output %zu; empty buffers are %s\n", c->store_len[STATE],
+            c->store_len[PAGE], c->store_len[LEGENDS], c->store_len[TABLES], c->buffer_len, c->null_if_empty ? "null" : "not null");
+}
+
+static void print_call(const struct run *r)
+{
+    const struct call *c = &r->call;
+    if (c->kind == CALL_START)
+        printf("Start: form %u, pitches %u %u %u %u\n", c->form, c->pitch[0], c->pitch[1], c->pitch[2], c->pitch[3]);
+    else if (c->kind == CALL_COMPOSE)
+        printf("Compose: copy %u\n", c->copy);
+    else
+        printf(c->kind == CALL_RELEASE ? "Release\n" : "Command: %02X\n", c->command);
+    print_lengths(c);
+    if (c->kind == CALL_COMMAND)
+        print_bytes("record", c->record, c->record_len);
+    print_bytes("state before", r->before[STATE], store_size[STATE]);
+}
+
+static void print_field(const char *name, unsigned in_library_answer, unsigned in_second_answer)
+{
+    printf("    %-12s %10X %10X%s\n", name, in_library_answer, in_second_answer, in_library_answer == in_second_answer ? "" : "  differ");
+}
+
+void print_answers(uint64_t a, uint64_t b)
+{
+    printf("answers (hex)       library     second\n");
+    print_field("number", trestlepip_number(a), trestlepip_number(b));
+    print_field("status", trestlepip_status(a), trestlepip_status(b));
+    print_field("page ready", trestlepip_ready(a), trestlepip_ready(b));
+    print_field("mark", trestlepip_mark(a), trestlepip_mark(b));
+    print_field("cause", trestlepip_cause(a), trestlepip_cause(b));
+    print_field("lines moved", trestlepip_lines(a), trestlepip_lines(b));
+    print_field("copy number", trestlepip_copy_number(a), trestlepip_copy_number(b));
+    print_field("other bits", (unsigned)(a >> 41), (unsigned)(b >> 41));
+}
+
+void print_place(const struct run *r)
+{
+    printf("difference: seed %llu, list %llu of %llu, call %llu of the list (%llu calls asked for, %s)\n", r->options.seed, r->list,
+            r->options.lists, r->call_in_list, r->options.calls, r->library == &r->guarded ? "guard pages" : "canaries");
+    print_call(r);
+}
+
+void print_difference(const struct difference *d)
+{
+    printf("%s %s: byte %zu is %02X from the library, must be %02X\n", d->what, d->part, d->at, d->library, d->expected);
+}

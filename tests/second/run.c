@@ -1,0 +1,158 @@
+/* Running: a list is laid out, each call made on both programs, compared, and counted. */
+#define _DEFAULT_SOURCE 1
+
+#include "run.h"
+
+#include "../../include/trestlepip.h"
+#include "compare.h"
+#include "programs.h"
+#include "report.h"
+
+#include <stdio.h>
+#include <string.h>
+#include <time.h>
+#include <unistd.h>
+
+void make_buffers(struct run *r)
+{
+    r->plain = set_make(false);
+    r->guarded = set_make(true);
+    r->second = set_make(false);
+    for (enum store i = STATE; i <= TABLES; i++)
+        r->before[i] = plain_end(store_size[i]) - store_size[i];
+}
+
+/* Before a guard page there is no byte more: a store that is too long then ends where the right one does. */
+static void settle_begin(struct call *c, bool guarded)
+{
+    for (enum store i = STATE; i <= TABLES; i++)
+        c->at_begin = c->at_begin && !(guarded && c->store_len[i] > store_size[i]);
+}
+
+/* Sets the bytes that the generator asks for, in all stores alike. */
+static void apply_changes(struct run *r)
+{
+    for (size_t i = 0; i < r->call.change_count; i++) {
+        const struct change *x = &r->call.changes[i];
+        memcpy(store(r->library, x->store) + x->offset, x->bytes, x->count);
+        memcpy(store(&r->second, x->store) + x->offset, x->bytes, x->count);
+        memcpy(r->before[x->store] + x->offset, x->bytes, x->count);
+    }
+}
+
+/* The record and the old bytes of reply and output, which differ from call to call so that a write left out is seen. */
+static void lay_out(const struct set *s, const struct call *c, unsigned old)
+{
+    memcpy(last_bytes(s, RECORD, c->record_len), c->record, c->record_len);
+    memset(last_bytes(s, REPLY, REPLY_ROOM), (int)(old & 0xFF), REPLY_ROOM);
+    if (c->kind == CALL_COMPOSE)
+        memset(last_bytes(s, OUT, OUT_ROOM), (int)(old & 0xFF), OUT_ROOM);
+}
+
+/* The stores as they are now become those before the next call. */
+static void remember(struct run *r)
+{
+    bool stores_kept = trestlepip_number(r->second_answer) != 0 || r->call.kind == CALL_COMPOSE;
+    for (enum store i = STATE; i <= (stores_kept ? STATE : TABLES); i++)
+        memcpy(r->before[i], store(&r->second, i), store_size[i]);
+}
+
+static void count_call(struct run *r)
+{
+    const struct set *s = &r->second;
+    const uint8_t *const after[STORES] = { store(s, STATE), store(s, PAGE), store(s, LEGENDS), store(s, TABLES) };
+    counts_add(&r->counts, &r->call, r->second_answer, r->before, after);
+    r->calls_made++;
+}
+
+/* A line a second, if someone looks. */
+static void show_progress(const struct run *r)
+{
+    static time_t shown;
+    if (r->calls_made % 1024 != 0 || !isatty(STDERR_FILENO) || time(NULL) == shown)
+        return;
+    shown = time(NULL);
+    fprintf(stderr, "%llu of %llu calls\r", r->calls_made, r->options.calls);
+}
+
+/* Compares all that the call left; prints the first difference. */
+static bool agree(const struct run *r)
+{
+    struct difference d;
+    bool same_answer = r->library_answer == r->second_answer;
+    bool buffers = buffers_differ(r, &d) || refusal_changes(r, &d);
+    if (same_answer && !buffers)
+        return true;
+    print_place(r);
+    print_answers(r->library_answer, r->second_answer);
+    if (buffers)
+        print_difference(&d);
+    return false;
+}
+
+/* One call on both programs. */
+static bool run_call(struct run *r)
+{
+    generator_next(&r->generator, trestlepip_number(r->second_answer), &r->call);
+    settle_begin(&r->call, r->library == &r->guarded);
+    apply_changes(r);
+    lay_out(r->library, &r->call, (unsigned)r->calls_made);
+    lay_out(&r->second, &r->call, (unsigned)r->calls_made);
+    r->second_answer = call_second(&r->second, &r->call);
+    if (!call_library(r->library, &r->call, &r->library_answer)) {
+        print_place(r);
+        printf("the library touched memory that it was not lent\n");
+        return false;
+    }
+    if (!agree(r))
+        return false;
+    count_call(r);
+    remember(r);
+    show_progress(r);
+    return true;
+}
+
+/* The stores before a list's first Start: zeros or any bytes, alike for both. */
+static void lay_stores(struct run *r)
+{
+    for (enum store i = STATE; i <= TABLES; i++) {
+        memset(r->before[i], 0, store_size[i]);
+        if (r->list % 2 == 0)
+            generator_fill(&r->generator, r->before[i], store_size[i]);
+        memcpy(store(r->library, i), r->before[i], store_size[i]);
+        memcpy(store(&r->second, i), r->before[i], store_size[i]);
+    }
+}
+
+/* Old bytes of the other buffers, alike in both sets when a list begins. */
+static void lay_buffers(const struct set *s)
+{
+    for (unsigned i = RECORD; i < PARTS; i++)
+        memset(s->part[i].end - s->part[i].room, 0, s->part[i].room);
+}
+
+/* One list; guard pages serve all lists or two of each four. */
+static bool run_list(struct run *r, unsigned long long calls)
+{
+    r->library = r->options.guard_all || r->list % 4 < 2 ? &r->guarded : &r->plain;
+    const struct set *s = &r->second;
+    const uint8_t *const looked_at[STORES] = { store(s, STATE), store(s, PAGE), store(s, LEGENDS), store(s, TABLES) };
+    generator_begin(&r->generator, r->options.seed, r->list, looked_at);
+    lay_stores(r);
+    lay_buffers(r->library);
+    lay_buffers(&r->second);
+    for (r->call_in_list = 1; r->call_in_list <= calls; r->call_in_list++)
+        if (!run_call(r))
+            return false;
+    return true;
+}
+
+/* All lists; the calls are shared among them as evenly as they can be. */
+bool run_lists(struct run *r)
+{
+    const struct options *o = &r->options;
+    for (r->list = 1; r->list <= o->lists; r->list++)
+        if (!run_list(r, o->calls / o->lists + (r->list <= o->calls % o->lists ? 1 : 0)))
+            return false;
+    return true;
+}

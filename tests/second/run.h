@@ -1,0 +1,33 @@
+/* One run: lists of calls on both programs, until a call on which they differ. */
+#ifndef RUN_H
+#define RUN_H
+
+#include "calls.h"
+#include "counts.h"
+#include "lent.h"
+
+struct options {
+    unsigned long long calls, lists, seed;
+    bool guard_all;
+};
+
+/* The sets of both programs, and the stores as they were before the call. */
+struct run {
+    struct options options;
+    struct set plain, guarded, second;
+    const struct set *library;
+    uint8_t *before[STORES];
+    unsigned long long list, call_in_list, calls_made;
+    struct generator generator;
+    struct call call;
+    uint64_t library_answer, second_answer;
+    struct counts counts;
+};
+
+/* Makes the sets, and room for the stores before the call. */
+void make_buffers(struct run *r);
+
+/* Runs all lists; false once a difference has been printed. */
+bool run_lists(struct run *r);
+
+#endif
