@@ -1,23 +1,20 @@
 // The control commands: document 01, "Movement" and "Reset and sense".
 use crate::Printer;
 use crate::Step;
-use calls::Control;
 use line::Causes;
 use numbers::Answer;
 use numbers::Refusal;
 use numbers::Sense;
 ghost use mathlib.Core.Path.{_≡_};
-ghost use mathlib.Core.Bool.{true, false, _&&_};
+ghost use mathlib.Core.Bool.{true};
 ghost use mathlib.Core.List.{List};
 ghost use Prim.Native.Nat.{ℕ, _≤_};
-ghost use lib.Dec.{ltb};
 ghost use lib.ListN.{length};
 ghost use Rattle.form.specs.Form.{formOk};
 ghost use Rattle.line.specs.Line.{noCauses};
 ghost use Rattle.calls.specs.declared.Control.the-variants.{NoOp, SenseIo, Initialize, Clear, Select};
 ghost use Rattle.calls.specs.Core.{withState, withBlocked};
-ghost use Rattle.calls.specs.Commands.{controlTraits};
-ghost use Rattle.calls.specs.Reset.{reset, senseSize, byte3, senseBytes};
+ghost use Rattle.calls.specs.Reset.{reset, byte3, senseBytes};
 ghost use Rattle.calls.specs.Effects.{done, standing, doControl};
 ghost use Rattle.calls.specs.Calls.{outcomeOf};
 ghost use Rattle.actions.specs.Whole.{Lent, lentOf, stateOf, coreOf, outcome, Did};
@@ -65,7 +62,7 @@ impl Printer {
     }
 
     // Accepted, with status 0C alone and the sense left as it is.
-    fn quietly(self) -> Step
+    pub fn quietly(self) -> Step
         ensures { λ r. ⌜ ((l : Lent) → Did self l r l (λ k. doControl k NoOp)) ⌝ }
     {
         Step {
@@ -82,7 +79,7 @@ impl Printer {
     }
 
     // Replies the sense, then clears it.
-    fn sense_io(mut self, reply: &mut [u8]) -> Step
+    pub fn sense_io(mut self, reply: &mut [u8]) -> Step
         requires { ⌜ 24 ≤ length (now reply) ⌝ }
         ensures { λ r. ⌜ ((l : Lent) → outcome r (now (reply .exit)) l
             ≡ outcomeOf (self .sense) (now (reply .entry)) (doControl (coreOf self l) SenseIo)) ⌝ }
@@ -109,7 +106,7 @@ impl Printer {
         Printer::start_state(self.fixed, self.blocked, self.sense, kept)
     }
 
-    fn initialize(self, kept: &mut [u8], legends: &mut [u8], tables: &mut [u8]) -> Step
+    pub fn initialize(self, kept: &mut [u8], legends: &mut [u8], tables: &mut [u8]) -> Step
         requires { ⌜ formOk (self .fixed .length) (self .fixed .pitches) ≡ true ⌝ }
         requires { ⌜ length (now kept) ≡ 160 ⌝ }
         requires { ⌜ length (now legends) ≡ 8192 ⌝ }
@@ -124,7 +121,7 @@ impl Printer {
         fresh.stand(Causes::NONE)
     }
 
-    fn clear(self) -> Step
+    pub fn clear(self) -> Step
         ensures { λ r. ⌜ ((l : Lent) → Did self l r l (λ k. doControl k Clear)) ⌝ }
     {
         if !calls::is_started(self.sheet) {
@@ -133,47 +130,19 @@ impl Printer {
         self.complete(false)
     }
 
-    fn block(mut self, blocked: bool) -> Step
+    pub fn block(mut self, blocked: bool) -> Step
         ensures { λ r. ⌜ ((l : Lent) → Did self l r l (λ k. done (withState k (withBlocked (k .state) blocked)) noCauses (standing k))) ⌝ }
     {
         self.blocked = blocked;
         self.stand(Causes::NONE)
     }
 
-    fn select(mut self, slot: u8) -> Step
+    pub fn select(mut self, slot: u8) -> Step
         ensures { λ r. ⌜ ((l : Lent) → Did self l r l (λ k. doControl k (Select slot))) ⌝ }
     {
         let mut slots = self.slots;
         slots.selected = slot;
         self.slots = slots;
         self.stand(Causes::NONE)
-    }
-
-    pub fn control(
-        self,
-        control: Control,
-        reply: &mut [u8],
-        kept: &mut [u8],
-        legends: &mut [u8],
-        tables: &mut [u8],
-    ) -> Step
-        requires { ⌜ formOk (self .fixed .length) (self .fixed .pitches) ≡ true ⌝ }
-        requires { ⌜ (controlTraits control .replies && ltb (length (now reply)) senseSize) ≡ false ⌝ }
-        requires { ⌜ length (now kept) ≡ 160 ⌝ }
-        requires { ⌜ length (now legends) ≡ 8192 ⌝ }
-        requires { ⌜ length (now tables) ≡ 1024 ⌝ }
-        ensures { λ r. ⌜ ((p : List ℕ) → outcome r (now (reply .exit)) (lentOf (now (kept .exit)) p (now (legends .exit)) (now (tables .exit)))
-            ≡ outcomeOf (self .sense) (now (reply .entry))
-            (doControl (coreOf self (lentOf (now (kept .entry)) p (now (legends .entry)) (now (tables .entry)))) control)) ⌝ }
-    {
-        match control {
-            Control::NoOp => self.quietly(),
-            Control::SenseIo => self.sense_io(reply),
-            Control::Initialize => self.initialize(kept, legends, tables),
-            Control::Clear => self.clear(),
-            Control::Block => self.block(true),
-            Control::Allow => self.block(false),
-            Control::Select(slot) => self.select(slot),
-        }
     }
 }

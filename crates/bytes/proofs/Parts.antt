@@ -3,6 +3,7 @@ use Prim.Native.Nat.{ℕ}
 use mathlib.Core.Path.{_≡_, refl}
 use mathlib.Core.Bool.{Bool, true, false, _&&_, and-true, and-false}
 use mathlib.Core.List.{List}
+use lib.ListN.{length}
 use Rattle.seq.specs.Words.{every}
 use Rattle.form.specs.Form.{formOk, formsInRange}
 use Rattle.line.specs.Line.{slotsInRange}
@@ -10,7 +11,9 @@ use Rattle.copies.specs.Copies.{copiesInRange}
 use Rattle.legends.specs.Legends.{legendsOk}
 use Rattle.calls.specs.Core.{Stores, State, sizesOk, P}
 use Rattle.calls.specs.Contents.{lineOk, rangesOk, dueOk, markOk, formsOk, sequenceOk, coreOk}
-use Rattle.bytes.specs.State.{stateAt, readable}
+use Rattle.seq.proofs.Laws.{and-left, and-right}
+use Rattle.bytes.specs.State.{stateSize, stateAt, coreAt, readable}
+use Rattle.bytes.proofs.Round.{readable-size}
 use Rattle.bytes.specs.Contents.{soundBytes, stateOk, fieldsOk, copiesOk, formsLineOk}
 
 -- fixed, slots, due, mark; copies, sequence; forms, line, FCB
@@ -51,3 +54,15 @@ sound-parts s m =
     let p = stateAt s in
     simp and-true
     (reorder (readable s) (sizesOk m) (rangesOk p) (dueOk (p .sheet)) (markOk (p .sheet)) (formsOk p) (sequenceOk p) (legendsOk (m .legends)))
+
+-- Sound bytes stand for a printer, and are as many as a state has; its contents are good.
+pub sound-read : (s : List ℕ) (m : Stores) → soundBytes s m ≡ true → readable s ≡ true
+unfolding soundBytes
+sound-read s m e = and-left (readable s) (coreOk (coreAt s m)) e
+
+pub sound-good : (s : List ℕ) (m : Stores) → soundBytes s m ≡ true → coreOk (coreAt s m) ≡ true
+unfolding soundBytes
+sound-good s m e = and-right (readable s) (coreOk (coreAt s m)) e
+
+pub sound-size : (s : List ℕ) (m : Stores) → soundBytes s m ≡ true → length s ≡ stateSize
+sound-size s m e = readable-size s (sound-read s m e)

@@ -15,10 +15,11 @@ use Rattle.seq.proofs.Laws.{every-at, every-of, finally, also, listed-all, spel
 use Rattle.numbers.specs.declared.Sense.{Sense}
 use Rattle.form.specs.Form.{fcbSize}
 use Rattle.copies.specs.Copies.{pairSize}
-use Rattle.calls.specs.Core.{State}
+use Rattle.calls.specs.declared.Sheet.{Sheet}
+use Rattle.calls.specs.Core.{State, withSheet}
 use Rattle.actions.specs.declared.Printer.{Printer}
 use Rattle.actions.specs.Whole.{keptSize, pairsIn, fcbIn, stateOf}
-use Rattle.bytes.specs.State.{stateSize, smallBytes, bytesOf, stateAt, senseAt, printerOf, keptAt, readable, flagPlaces, byteAt, flagAt, withSense}
+use Rattle.bytes.specs.State.{stateSize, smallBytes, bytesOf, stateAt, senseAt, printerOf, keptAt, readable, flagPlaces, byteAt, flagAt, sheetOver}
 
 -- the arrays are as long as their types say: pitches, slots loaded, the overlay sequence's pairs, the FCB's bytes
 pub record Lengths (ps : List ℕ) (slots : List Bool) (qs f : List ℕ) : Type 0 where
@@ -167,12 +168,8 @@ laid s k p e l =
       cut-kept k (l ∙ kept-size s e),
     ))
 
--- With another sense in its bytes, and arrays that are the same, a state stands for the printer with that sense.
-pub sensed : (s k : List ℕ) (q : Sense) → byteAt s 1 < 256 → readable s ≡ true → k ≡ keptAt s
-    → withSense (take 24 s ++ (k ++ drop keptSize (drop 24 s))) q ≡ bytesOf (stateAt s) q
+-- With another sheet and another sense in its bytes, a state stands for the printer with these.
+pub sheeted : (s : List ℕ) (x : Sheet) (q : Sense) → byteAt s 1 < 256 → readable s ≡ true
+    → sheetOver s x q ≡ bytesOf (withSheet (stateAt s) x) q
 unfolding bytesOf
-sensed s k q h e d =
-    let put : take 24 s ++ (k ++ drop keptSize (drop 24 s)) ≡ s =
-    rw (d, take-append-drop keptSize (drop 24 s), take-append-drop 24 s)
-    in
-    ap (λ (l : List ℕ). withSense l q) (put ∙ sym (back s h e))
+sheeted s x q h e = ap (λ (l : List ℕ). sheetOver l x q) (sym (back s h e))

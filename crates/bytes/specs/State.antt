@@ -6,10 +6,13 @@ use lib.Dec.{eqb, leb}
 use lib.ListN.{length, take, drop, getD}
 use mir.Val.{boolByte}
 use Rattle.seq.specs.Words.{all, every}
+use Rattle.numbers.specs.declared.Answer.{Answer}
 use Rattle.numbers.specs.declared.Sense.{Sense}
 use Rattle.form.specs.Form.{fcbSize}
 use Rattle.copies.specs.Copies.{pairSize}
+use Rattle.calls.specs.declared.Sheet.{Sheet}
 use Rattle.calls.specs.Core.{Stores, State, Core, World}
+use Rattle.calls.specs.Calls.{Outcome}
 use Rattle.actions.specs.declared.Printer.{Printer}
 use Rattle.actions.specs.Whole.{keptSize}
 
@@ -83,9 +86,21 @@ flagPlaces = 6 ∷ 8 ∷ 9 ∷ 10 ∷ 11 ∷ 16 ∷ 17 ∷ 18 ∷ []
 unfoldable pub readable : List ℕ → Bool
 readable s = every (eqb (length s) stateSize ∷ all (λ n. leb (byteAt s n) 1) flagPlaces ∷ [])
 
--- A state with another sense: bytes 19 to 23 replaced.
-abbrev pub withSense : List ℕ → Sense → List ℕ
-withSense s q = take 19 s ++ ((q .b0 ∷ q .b1 ∷ q .b2 ∷ q .b22 ∷ q .b23 ∷ []) ++ drop 5 (drop 19 s))
+-- A state with another sheet and another sense: bytes 15 to 23 replaced.
+abbrev pub sheetOver : List ℕ → Sheet → Sense → List ℕ
+sheetOver s x q =
+    take 15 s
+    ++ ((x .line
+    ∷ boolByte (x .written)
+    ∷ boolByte (x .waiting)
+    ∷ boolByte (x .due)
+    ∷ q .b0
+    ∷ q .b1
+    ∷ q .b2
+    ∷ q .b22
+    ∷ q .b23
+    ∷ [])
+    ++ drop 9 (drop 15 s))
 
 -- The printer by value, which leaves its two arrays in these bytes.
 abbrev pub printerOf : List ℕ → Printer
@@ -103,3 +118,19 @@ printerOf s =
 
 abbrev pub keptAt : List ℕ → List ℕ
 keptAt s = take keptSize (drop 24 s)
+
+-- What a call leaves, with the printer as bytes: its answer, its buffer, the state's bytes and the stores.
+pub record Left : Type 0 where
+  pub answer : Answer
+  pub buffer : List ℕ
+  pub state : List ℕ
+  pub stores : Stores
+
+abbrev pub left : Answer → List ℕ → List ℕ → Stores → Left
+left answer buffer s m = record { answer = answer; buffer = buffer; state = s; stores = m }
+
+abbrev pub bytesIn : World → List ℕ
+bytesIn w = bytesOf (w .core .state) (w .sense)
+
+abbrev pub leftBy : Outcome → Left
+leftBy o = left (o .answer) (o .buffer) (bytesIn (o .world)) (o .world .core .stores)

@@ -11,7 +11,7 @@ ghost use lib.ListN.{length, drop};
 ghost use lib.Dec.{leb};
 ghost use Rattle.seq.specs.Words.{all};
 ghost use Rattle.actions.specs.Whole.{stateOf};
-ghost use Rattle.bytes.specs.State.{smallBytes, byteAt, printerOf, flagPlaces, readable, withSense};
+ghost use Rattle.bytes.specs.State.{smallBytes, byteAt, printerOf, flagPlaces, readable, stateAt, sheetOver};
 
 pub const STATE_BYTES: usize = 184;
 
@@ -43,24 +43,38 @@ pub(crate) fn pair(high: u8, low: u8) -> u16
     (high as u16) * 256 + (low as u16)
 }
 
+// The form length, and what is known of the sheet: all that the order of a command's refusals asks of a state.
+pub fn form_length(s: &[u8]) -> u16
+    requires { ⌜ length (now s) ≡ 184 ⌝ }
+    ensures { λ r. ⌜ r ≡ stateAt (now (s .entry)) .fixed .length ⌝ }
+{
+    pair(s[0], s[1])
+}
+
+pub fn sheet(s: &[u8]) -> Sheet
+    requires { ⌜ length (now s) ≡ 184 ⌝ }
+    ensures { λ r. ⌜ r ≡ stateAt (now (s .entry)) .sheet ⌝ }
+{
+    Sheet {
+        line: s[15],
+        written: s[16] == 1,
+        waiting: s[17] == 1,
+        due: s[18] == 1,
+    }
+}
+
 // The printer that bytes stand for; its two arrays stay in them.
 pub fn decode(s: &[u8]) -> Printer
     requires { ⌜ length (now s) ≡ 184 ⌝ }
     ensures { λ r. ⌜ r ≡ printerOf (now (s .entry)) ⌝ }
 {
     let fixed = Fixed {
-        length: pair(s[0], s[1]),
+        length: form_length(s),
         pitches: [s[2], s[3], s[4], s[5]],
     };
     let slots = Slots {
         loaded: [s[8] == 1, s[9] == 1, s[10] == 1, s[11] == 1],
         selected: s[12],
-    };
-    let sheet = Sheet {
-        line: s[15],
-        written: s[16] == 1,
-        waiting: s[17] == 1,
-        due: s[18] == 1,
     };
     let sense = Sense {
         b0: s[19],
@@ -76,7 +90,7 @@ pub fn decode(s: &[u8]) -> Printer
         slots: slots,
         pairs: s[13],
         reference: s[14],
-        sheet: sheet,
+        sheet: sheet(s),
         sense: sense,
     }
 }
@@ -116,13 +130,23 @@ fn small_bytes(p: Printer) -> [u8; 24]
     ]
 }
 
-// The sense alone, over a state that is otherwise as it was: what a refused call changes at most.
-pub fn put_sense(sense: Sense, s: &mut [u8])
+// The sheet and the sense alone, over a state that is otherwise as it was: what most commands change at most.
+pub fn put_sheet(sheet: Sheet, sense: Sense, s: &mut [u8])
     requires { ⌜ length (now s) ≡ 184 ⌝ }
-    ensures { λ _. ⌜ now (s .exit) ≡ withSense (now (s .entry)) sense ⌝ }
+    ensures { λ _. ⌜ now (s .exit) ≡ sheetOver (now (s .entry)) sheet sense ⌝ }
 {
-    let bytes = [sense.b0, sense.b1, sense.b2, sense.b22, sense.b23];
-    seq::copy_all(&mut s[19..24], &bytes);
+    let bytes = [
+        sheet.line,
+        sheet.written as u8,
+        sheet.waiting as u8,
+        sheet.due as u8,
+        sense.b0,
+        sense.b1,
+        sense.b2,
+        sense.b22,
+        sense.b23,
+    ];
+    seq::copy_all(&mut s[15..24], &bytes);
 }
 
 // The bytes of a printer, over the front of s; its arrays are in s already.

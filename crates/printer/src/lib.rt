@@ -1,22 +1,51 @@
-// The four calls on a printer by value, whose contents were found good: each is accepted or refused as the definition has it. Its contract is one
-// equation that fixes the answer, the printer and every lent byte.
+// The calls on a state's bytes: what refuses one, or the method that does it on the printer by value; and what that can have changed is put back.
 use actions::Printer;
 use actions::Step;
+use bytes::state;
 use calls::Command;
+use calls::Control;
 use form::Layout;
+use numbers::Answer;
 use numbers::Refusal;
 ghost use mathlib.Core.Path.{_≡_};
-ghost use mathlib.Core.Bool.{true};
-ghost use mathlib.Core.List.{[], _∷_};
-ghost use lib.ListN.{length};
+ghost use mathlib.Core.Bool.{true, false, _&&_};
+ghost use mathlib.Core.List.{List, [], _∷_, _++_};
+ghost use Prim.Native.Nat.{ℕ};
+ghost use lib.Dec.{ltb};
+ghost use lib.ListN.{length, drop};
 ghost use Rattle.seq.specs.Words.{firstOr};
 ghost use Rattle.numbers.specs.declared.Refusal.the-variants.{Accepted};
+ghost use Rattle.form.specs.Form.{formOk};
 ghost use Rattle.calls.specs.Core.{storesOf, laidOut};
-ghost use Rattle.calls.specs.Contents.{coreOk};
-ghost use Rattle.calls.specs.Effects.{doCommand};
+ghost use Rattle.calls.specs.Commands.{controlTraits};
+ghost use Rattle.calls.specs.Reset.{senseSize};
+ghost use Rattle.calls.specs.Effects.{doControl, doCommand};
 ghost use Rattle.calls.specs.Calls.{command, compose, release, commandTests, outcomeOf, step};
 ghost use Rattle.calls.specs.Start.{startOutcome};
-ghost use Rattle.actions.specs.Whole.{lentOf, stateOf, coreOf, worldOf, outcome};
+ghost use Rattle.actions.specs.Whole.{stateOf};
+ghost use Rattle.bytes.specs.State.{smallBytes, stateAt, senseAt, coreAt, worldAt, readable, sheetOver, left, leftBy};
+ghost use Rattle.bytes.specs.Contents.{soundBytes};
+
+// A step's printer back into the state, where no more than its sheet and its sense can have changed.
+fn put_sheet(step: Step, state: &mut [u8]) -> Answer
+    requires { ⌜ length (now state) ≡ 184 ⌝ }
+    ensures answer { λ r. ⌜ r ≡ step .answer ⌝ }
+    ensures state { λ _. ⌜ now (state .exit) ≡ sheetOver (now (state .entry)) (step .printer .sheet) (step .printer .sense) ⌝ }
+{
+    let q = step.printer;
+    state::put_sheet(q.sheet, q.sense, state);
+    step.answer
+}
+
+// And where any field can have changed.
+fn put_all(step: Step, state: &mut [u8]) -> Answer
+    requires { ⌜ length (now state) ≡ 184 ⌝ }
+    ensures answer { λ r. ⌜ r ≡ step .answer ⌝ }
+    ensures state { λ _. ⌜ ((k : List ℕ) → now (state .exit) ≡ smallBytes (stateOf (step .printer) k) (step .printer .sense) ++ drop 24 (now (state .entry))) ⌝ }
+{
+    state::encode(step.printer, state);
+    step.answer
+}
 
 pub fn start(
     form: u32,
@@ -24,125 +53,184 @@ pub fn start(
     p1: u32,
     p2: u32,
     p3: u32,
-    kept: &mut [u8],
+    state: &mut [u8],
     page: &mut [u8],
     legends: &mut [u8],
     tables: &mut [u8],
-) -> Step
-    requires { ⌜ length (now kept) ≡ 160 ⌝ }
-    ensures { λ r. ⌜ outcome r [] (lentOf (now (kept .exit)) (now (page .exit)) (now (legends .exit)) (now (tables .exit)))
-        ≡ startOutcome form (p0 ∷ p1 ∷ p2 ∷ p3 ∷ []) (storesOf (now (page .entry)) (now (legends .entry)) (now (tables .entry))) ⌝ }
+) -> Answer
+    requires { ⌜ length (now state) ≡ 184 ⌝ }
+    ensures { λ r. ⌜ left r [] (now (state .exit)) (storesOf (now (page .exit)) (now (legends .exit)) (now (tables .exit)))
+        ≡ leftBy (startOutcome form (p0 ∷ p1 ∷ p2 ∷ p3 ∷ []) (storesOf (now (page .entry)) (now (legends .entry)) (now (tables .entry)))) ⌝ }
 {
     let refusal = order::refusals::start_refusal(form, p0, p1, p2, p3, page, legends, tables);
     if refusal.is_accepted() {
-        return Printer::begin(form, p0, p1, p2, p3, kept, page, legends, tables);
+        let begun = Printer::begin(
+            form,
+            p0,
+            p1,
+            p2,
+            p3,
+            &mut state[24..184],
+            page,
+            legends,
+            tables,
+        );
+        return put_all(begun, state);
     }
-    seq::fill(kept, 0);
-    Printer::none(refusal)
+    seq::fill(&mut state[24..184], 0);
+    put_all(Printer::none(refusal), state)
 }
 
-// An accepted command, a method each.
+// A control command, a method each. No-Op changes nothing.
+fn control(
+    control: Control,
+    reply: &mut [u8],
+    state: &mut [u8],
+    legends: &mut [u8],
+    tables: &mut [u8],
+) -> Answer
+    requires { ⌜ length (now state) ≡ 184 ⌝ }
+    requires { ⌜ readable (now state) ≡ true ⌝ }
+    requires { ⌜ formOk (stateAt (now state) .fixed .length) (stateAt (now state) .fixed .pitches) ≡ true ⌝ }
+    requires { ⌜ (controlTraits control .replies && ltb (length (now reply)) senseSize) ≡ false ⌝ }
+    requires { ⌜ length (now legends) ≡ 8192 ⌝ }
+    requires { ⌜ length (now tables) ≡ 1024 ⌝ }
+    ensures { λ r. ⌜ ((p : List ℕ) → left r (now (reply .exit)) (now (state .exit)) (storesOf p (now (legends .exit)) (now (tables .exit)))
+        ≡ leftBy (outcomeOf (senseAt (now (state .entry))) (now (reply .entry))
+        (doControl (coreAt (now (state .entry)) (storesOf p (now (legends .entry)) (now (tables .entry)))) control))) ⌝ }
+{
+    match control {
+        Control::NoOp => {
+            let step = state::decode(state).quietly();
+            step.answer
+        }
+        Control::SenseIo => put_sheet(state::decode(state).sense_io(reply), state),
+        Control::Initialize => {
+            let p = state::decode(state);
+            let step = p.initialize(&mut state[24..184], legends, tables);
+            put_all(step, state)
+        }
+        Control::Clear => put_sheet(state::decode(state).clear(), state),
+        Control::Block => put_all(state::decode(state).block(true), state),
+        Control::Allow => put_all(state::decode(state).block(false), state),
+        Control::Select(slot) => put_all(state::decode(state).select(slot), state),
+    }
+}
+
+// An accepted command, a method each. The state is decoded by each for itself, so that none decodes a field that it does not ask for.
 fn perform(
-    p: Printer,
     form: Layout,
     command: Command,
     sent: &[u8],
     reply: &mut [u8],
-    kept: &mut [u8],
+    state: &mut [u8],
     page: &mut [u8],
     legends: &mut [u8],
     tables: &mut [u8],
-) -> Step
-    requires { ⌜ length (now kept) ≡ 160 ⌝ }
-    requires { ⌜ form ≡ laidOut (stateOf p (now kept)) ⌝ }
-    requires { ⌜ firstOr Accepted (commandTests (coreOf p (lentOf (now kept) (now page) (now legends) (now tables))) command (now sent) (now reply))
+) -> Answer
+    requires { ⌜ length (now state) ≡ 184 ⌝ }
+    requires { ⌜ readable (now state) ≡ true ⌝ }
+    requires { ⌜ form ≡ laidOut (stateAt (now state)) ⌝ }
+    requires { ⌜ firstOr Accepted (commandTests (coreAt (now state) (storesOf (now page) (now legends) (now tables))) command (now sent) (now reply))
         ≡ Accepted ⌝ }
-    ensures { λ r. ⌜ outcome r (now (reply .exit)) (lentOf (now (kept .exit)) (now (page .exit)) (now (legends .exit)) (now (tables .exit)))
-        ≡ outcomeOf (p .sense) (now (reply .entry)) (doCommand
-        (coreOf p (lentOf (now (kept .entry)) (now (page .entry)) (now (legends .entry)) (now (tables .entry)))) command (now (sent .entry))) ⌝ }
+    ensures { λ r. ⌜ left r (now (reply .exit)) (now (state .exit)) (storesOf (now (page .exit)) (now (legends .exit)) (now (tables .exit)))
+        ≡ leftBy (outcomeOf (senseAt (now (state .entry))) (now (reply .entry)) (doCommand
+        (coreAt (now (state .entry)) (storesOf (now (page .entry)) (now (legends .entry)) (now (tables .entry)))) command (now (sent .entry)))) ⌝ }
 {
     match command {
-        Command::Write(motion) => p.write(form, motion, sent, kept, page, tables),
-        Command::Move(motion) => p.move_on(form, motion, kept),
-        Command::Controls(control) => p.control(control, reply, kept, legends, tables),
-        Command::Loads(load) => p.load(load, sent, kept, legends, tables),
-        Command::Unlisted => p.refuse(Refusal::NotListed, 0),
+        Command::Write(motion) => {
+            let p = state::decode(state);
+            let step = p.write(form, motion, sent, &state[24..184], page, tables);
+            put_sheet(step, state)
+        }
+        Command::Move(motion) => {
+            let p = state::decode(state);
+            let step = p.move_on(form, motion, &state[24..184]);
+            put_sheet(step, state)
+        }
+        Command::Controls(which) => control(which, reply, state, legends, tables),
+        Command::Loads(load) => {
+            let p = state::decode(state);
+            let step = p.load(load, sent, &mut state[24..184], legends, tables);
+            put_all(step, state)
+        }
+        Command::Unlisted => put_sheet(state::decode(state).refuse(Refusal::NotListed, 0), state),
     }
 }
 
 pub fn command(
-    p: Printer,
     form: Layout,
     byte: u8,
     sent: &[u8],
     reply: &mut [u8],
-    kept: &mut [u8],
+    state: &mut [u8],
     page: &mut [u8],
     legends: &mut [u8],
     tables: &mut [u8],
-) -> Step
-    requires { ⌜ length (now kept) ≡ 160 ⌝ }
-    requires { ⌜ form ≡ laidOut (stateOf p (now kept)) ⌝ }
-    requires { ⌜ coreOk (coreOf p (lentOf (now kept) (now page) (now legends) (now tables))) ≡ true ⌝ }
-    ensures { λ r. ⌜ outcome r (now (reply .exit)) (lentOf (now (kept .exit)) (now (page .exit)) (now (legends .exit)) (now (tables .exit)))
-        ≡ step (worldOf p (lentOf (now (kept .entry)) (now (page .entry)) (now (legends .entry)) (now (tables .entry))))
-        (command byte (now (sent .entry)) (now (reply .entry))) ⌝ }
+) -> Answer
+    requires { ⌜ length (now state) ≡ 184 ⌝ }
+    requires { ⌜ soundBytes (now state) (storesOf (now page) (now legends) (now tables)) ≡ true ⌝ }
+    requires { ⌜ form ≡ laidOut (stateAt (now state)) ⌝ }
+    ensures { λ r. ⌜ left r (now (reply .exit)) (now (state .exit)) (storesOf (now (page .exit)) (now (legends .exit)) (now (tables .exit)))
+        ≡ leftBy (step (worldAt (now (state .entry)) (storesOf (now (page .entry)) (now (legends .entry)) (now (tables .entry))))
+        (command byte (now (sent .entry)) (now (reply .entry)))) ⌝ }
 {
     let command = order::commands::decode(byte);
-    let refusal = order::refusals::command_refusal(p.fixed.length, p.sheet, command, sent, reply);
+    let length = state::form_length(state);
+    let sheet = state::sheet(state);
+    let refusal = order::refusals::command_refusal(length, sheet, command, sent, reply);
     if refusal.is_accepted() {
-        return perform(p, form, command, sent, reply, kept, page, legends, tables);
+        return perform(form, command, sent, reply, state, page, legends, tables);
     }
-    p.refuse(refusal, order::commands::shown_count(sent.len()))
+    let count = order::commands::shown_count(sent.len());
+    put_sheet(state::decode(state).refuse(refusal, count), state)
 }
 
 // The copy with this index, from 1, of the page that waits.
 pub fn compose(
-    p: Printer,
     form: Layout,
     copy: u32,
     out: &mut [u8],
-    kept: &[u8],
+    state: &[u8],
     page: &[u8],
     legends: &[u8],
     tables: &[u8],
-) -> Step
-    requires { ⌜ length (now kept) ≡ 160 ⌝ }
-    requires { ⌜ form ≡ laidOut (stateOf p (now kept)) ⌝ }
-    requires { ⌜ coreOk (coreOf p (lentOf (now kept) (now page) (now legends) (now tables))) ≡ true ⌝ }
-    ensures { λ r. ⌜ (let l = lentOf (now (kept .entry)) (now (page .entry)) (now (legends .entry)) (now (tables .entry)) in
-        outcome r (now (out .exit)) l ≡ step (worldOf p l) (compose copy (now (out .entry)))) ⌝ }
+) -> Answer
+    requires { ⌜ length (now state) ≡ 184 ⌝ }
+    requires { ⌜ soundBytes (now state) (storesOf (now page) (now legends) (now tables)) ≡ true ⌝ }
+    requires { ⌜ form ≡ laidOut (stateAt (now state)) ⌝ }
+    ensures { λ r. ⌜ (let m = storesOf (now (page .entry)) (now (legends .entry)) (now (tables .entry)) in
+        left r (now (out .exit)) (now (state .entry)) m ≡ leftBy (step (worldAt (now (state .entry)) m) (compose copy (now (out .entry))))) ⌝ }
 {
+    let p = state::decode(state);
     let refusal = order::refusals::compose_refusal(
         p.sheet.waiting,
-        &kept[0..16],
+        &state[24..40],
         p.pairs,
         form,
         copy,
         out,
     );
     if refusal.is_accepted() {
-        return p.print_copy(form, copy as u16, out, kept, page, legends);
+        let step = p.print_copy(form, copy as u16, out, &state[24..184], page, legends);
+        return step.answer;
     }
-    p.refuse(refusal, 0)
+    let step = p.refuse(refusal, 0);
+    step.answer
 }
 
 // The page that waits is done with.
-pub fn release(
-    p: Printer,
-    kept: &mut [u8],
-    page: &mut [u8],
-    legends: &mut [u8],
-    tables: &mut [u8],
-) -> Step
-    requires { ⌜ length (now kept) ≡ 160 ⌝ }
-    requires { ⌜ coreOk (coreOf p (lentOf (now kept) (now page) (now legends) (now tables))) ≡ true ⌝ }
-    ensures { λ r. ⌜ outcome r [] (lentOf (now (kept .exit)) (now (page .exit)) (now (legends .exit)) (now (tables .exit)))
-        ≡ step (worldOf p (lentOf (now (kept .entry)) (now (page .entry)) (now (legends .entry)) (now (tables .entry)))) release ⌝ }
+pub fn release(state: &mut [u8], page: &mut [u8], legends: &mut [u8], tables: &mut [u8]) -> Answer
+    requires { ⌜ length (now state) ≡ 184 ⌝ }
+    requires { ⌜ soundBytes (now state) (storesOf (now page) (now legends) (now tables)) ≡ true ⌝ }
+    ensures { λ r. ⌜ left r [] (now (state .exit)) (storesOf (now (page .exit)) (now (legends .exit)) (now (tables .exit)))
+        ≡ leftBy (step (worldAt (now (state .entry)) (storesOf (now (page .entry)) (now (legends .entry)) (now (tables .entry)))) release) ⌝ }
 {
+    let p = state::decode(state);
     let refusal = order::refusals::release_refusal(p.sheet.waiting);
     if refusal.is_accepted() {
-        return p.empty_page(kept, page, legends, tables);
+        let step = p.empty_page(&mut state[24..184], page, legends, tables);
+        return put_all(step, state);
     }
-    p.refuse(refusal, 0)
+    put_sheet(p.refuse(refusal, 0), state)
 }

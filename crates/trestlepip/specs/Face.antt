@@ -9,7 +9,7 @@ use Rattle.numbers.specs.Numbers.{only}
 use Rattle.calls.specs.Core.{Stores, World}
 use Rattle.calls.specs.Calls.{Call, Outcome, lent, step}
 use Rattle.calls.specs.Start.{startOutcome}
-use Rattle.bytes.specs.State.{stateSize, bytesOf, worldAt, readable}
+use Rattle.bytes.specs.State.{stateSize, worldAt, readable, bytesIn}
 use Rattle.bytes.specs.Packed.{packed}
 
 -- All that a call hands back and leaves: its packed answer, its buffer, the state's bytes and the stores.
@@ -23,9 +23,6 @@ abbrev pub called : ℕ → List ℕ → List ℕ → Stores → Called
 called answer buffer state m = record { answer = answer; buffer = buffer; state = state; stores = m }
 
 -- An outcome as the host finds it.
-abbrev pub bytesIn : World → List ℕ
-bytesIn w = bytesOf (w .core .state) (w .sense)
-
 abbrev pub shown : Outcome → Called
 shown o = called (packed (o .answer)) (o .buffer) (bytesIn (o .world)) (o .world .core .stores)
 

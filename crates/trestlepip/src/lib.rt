@@ -28,19 +28,17 @@ pub extern "C" fn trestlepip_start(
     if state.len() != state::STATE_BYTES {
         return answer::unread();
     }
-    let step = printer::start(
+    answer::pack(printer::start(
         form,
         pitch0,
         pitch1,
         pitch2,
         pitch3,
-        &mut state[24..184],
+        state,
         page,
         legends,
         tables,
-    );
-    state::encode(step.printer, state);
-    answer::pack(step.answer)
+    ))
 }
 
 #[no_mangle]
@@ -64,27 +62,7 @@ pub extern "C" fn trestlepip_command(
     if !found.sound {
         return answer::unread();
     }
-    let p = state::decode(state);
-    let step = printer::command(
-        p,
-        found.form,
-        byte,
-        sent,
-        reply,
-        &mut state[24..184],
-        page,
-        legends,
-        tables,
-    );
-    let given = step.answer;
-    let refusal = given.refusal;
-    if refusal.is_accepted() {
-        state::encode(step.printer, state);
-        return answer::pack(given);
-    }
-    let q = step.printer;
-    state::put_sense(q.sense, state);
-    answer::pack(given)
+    answer::pack(printer::command(found.form, byte, sent, reply, state, page, legends, tables))
 }
 
 // The stores are only read.
@@ -107,18 +85,7 @@ pub extern "C" fn trestlepip_compose(
     if !found.sound {
         return answer::unread();
     }
-    let p = state::decode(state);
-    let step = printer::compose(
-        p,
-        found.form,
-        copy,
-        out,
-        &state[24..184],
-        page,
-        legends,
-        tables,
-    );
-    answer::pack(step.answer)
+    answer::pack(printer::compose(found.form, copy, out, state, page, legends, tables))
 }
 
 #[no_mangle]
@@ -138,15 +105,5 @@ pub extern "C" fn trestlepip_release(
     if !found.sound {
         return answer::unread();
     }
-    let p = state::decode(state);
-    let step = printer::release(p, &mut state[24..184], page, legends, tables);
-    let given = step.answer;
-    let refusal = given.refusal;
-    if refusal.is_accepted() {
-        state::encode(step.printer, state);
-        return answer::pack(given);
-    }
-    let q = step.printer;
-    state::put_sense(q.sense, state);
-    answer::pack(given)
+    answer::pack(printer::release(state, page, legends, tables))
 }

@@ -1,16 +1,16 @@
--- Stepped where the contents are good, or refused with 9; either way the state is left as it was.
+-- Stepped where the contents are good, or refused with 9 and nothing written.
 use Prim.Native.Nat.{_<_}
-use mathlib.Core.Path.{_≡_, sym, ap, _∙_}
+use mathlib.Core.Path.{_≡_, sym, _∙_}
 use mathlib.Core.Bool.{true}
 use native.Mathlib.Omega.{arith}
 use borrow.Author.Tests.{not-true, not-false}
 use Rattle.calls.specs.Core.{Stores, storesOf, sizesOk}
 use Rattle.calls.specs.Calls.{compose}
 use Rattle.calls.proofs.Good.{sizes-good}
-use Rattle.bytes.specs.State.{byteAt, keptAt}
+use Rattle.bytes.specs.State.{byteAt}
 use Rattle.bytes.specs.Contents.{soundBytes}
-use Rattle.trestlepip.specs.Face.{bytesIn}
-use Rattle.trestlepip.proofs.Calls.{no-sizes, sound-size, bytes-so, form-so, good-so, read-so, unread-so, compose-world}
+use Rattle.bytes.proofs.Parts.{sound-size}
+use Rattle.trestlepip.proofs.Calls.{no-sizes, read-so, unread-so}
 use borrow.Author.Needs.{needs}
 use Rattle.trestlepip.proofs.trestlepip_compose.Statement.{statement}
 use Rattle.trestlepip.proofs.trestlepip_compose.Tie as tie
@@ -35,32 +35,40 @@ sized c = c .before .before .before
 sound-at : (c : tie.Else2) → soundBytes (start (sized c) .args .state .now) (stores (start (sized c))) ≡ true
 sound-at c = sym (c .before .before .look .ensures .0 _ _ (sizes-at (sized c))) ∙ not-false _ (c .if2 .left)
 
+returns : tie.Need-returns
+returns c =
+    unread-so _ _ _ (omega (arith, c .before .before .before .before .before .before .shared-slice-known .given 1)) (no-sizes _ _ (sym (c .before .before .sizes-ok .ensures) ∙ not-true _ (c .before .if1 .taken)))
+    (c .unread .ensures)
+
+look-requires : tie.Need-look-requires
+look-requires c κs =
+    sizes-good _ (sizes-at (c)) .legends
+
+returns-2 : tie.Need-returns-2
+returns-2 c =
+    let x = c .before .before .before .before in
+    unread-so _ _ _ (low-at x) (sym (c .before .before .before .look .ensures .0 _ _ (sizes-at x)) ∙ not-true _ (c .before .if2 .taken)) (c .unread2 .ensures)
+
+compose-requires : tie.Need-compose-requires
+compose-requires c κs =
+    let x = c .before in (sound-size _ _ (sound-at x), (sound-at x, c .before .before .before .look .ensures .1 (not-false _ (x .if2 .left))))
+
+returns-3 : tie.Need-returns-3
+returns-3 c =
+    let x = c .before .before .before .before .before in let s = start (sized x) in
+    read-so (s .args .state .now) (stores s) (compose (s .args .copy) (s .args .out .now)) (sound-at x) (c .before .before .before .compose .ensures) (c .pack .ensures)
+
 pub trestlepip-compose-spec : {M : Type 1} → statement M
 trestlepip-compose-spec =
     tie.close
     (tie.spec
     (λ c κs. search needs)
     (λ c κs. search needs)
-    (λ c. unread-so _ _ _ (omega (arith, c .before .before .before .before .before .before .shared-slice-known .given 1)) (no-sizes _ _ (sym (c .before .before .sizes-ok .ensures)
-    ∙ not-true _ (c .before .if1 .taken))) (c .unread .ensures))
-    (λ c κs. sizes-good _ (sizes-at c) .legends)
+    returns
+    look-requires
     (λ c κs. search needs)
-    (λ c. let x = c .before .before .before .before in unread-so _ _ _ (low-at x) (sym (c .before .before .before .look .ensures .0 _ _ (sizes-at x))
-    ∙ not-true _ (c .before .if2 .taken)) (c .unread2 .ensures))
-    (λ c κs. sound-size _ _ (sound-at c))
-    (λ c. search needs)
-    (λ c. search needs)
-    (λ c. omega (arith, sound-size _ _ (sound-at (c .before .before))))
-    (λ c κs. let d = c .before .before in let x = d .before in let a = start (sized x) in (
-      search needs,
-      (
-        form-so (a .args .state .now) (stores a) (sound-at x) (d .decode .ensures) (x .before .before .look .ensures .1 (not-false _ (x .if2 .left))),
-        good-so (a .args .state .now) (stores a) (sound-at x) (d .decode .ensures),
-      ),
-    ))
+    returns-2
+    compose-requires
     (λ c κs. search needs)
     (λ c. search needs)
-    (λ c. let s = c .before .before .before in let d = s .before .before .before in let x = d .before in let a = start (sized x) in
-    let k = keptAt (a .args .state .now) in
-    read-so (a .args .state .now) (stores a) (sound-at x) (d .decode .ensures) (compose (a .args .copy) (a .args .out .now)) k (s .compose .ensures)
-    (c .pack .ensures) (sym (ap bytesIn (compose-world k _ _ (s .compose .ensures)) ∙ bytes-so (a .args .state .now) (stores a) (sound-at x) (d .decode .ensures) (low-at (sized x))))))
+    returns-3)

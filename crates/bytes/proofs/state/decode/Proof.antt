@@ -4,13 +4,14 @@ use borrow.Author.Needs.{needs}
 use Rattle.bytes.proofs.state.decode.Statement.{statement}
 use Rattle.bytes.proofs.state.decode.Tie as tie
 
-pub decode-spec : {M : Type 1} → statement M
+returns : tie.Need-returns
 unfolding stateAt senseAt
+returns c = rw (c .before .before .before .before .before .before .before .before .before .before .before .before .before .before .before .before .before .before .before .form-length .ensures, c .sheet .ensures)
+
+pub decode-spec : {M : Type 1} → statement M
 decode-spec =
     tie.close
     (tie.spec
-    (λ c. search needs)
-    (λ c. search needs)
     (λ c κs. search needs)
     (λ c. search needs)
     (λ c. search needs)
@@ -30,8 +31,5 @@ decode-spec =
     (λ c. search needs)
     (λ c. search needs)
     (λ c. search needs)
-    (λ c. search needs)
-    (λ c. search needs)
-    (λ c. search needs)
-    (λ c. search needs)
-    (λ c. rw (c .before .before .before .before .before .before .before .before .before .before .before .before .before .before .before .before .before .before .before .before .before .before .pair .ensures)))
+    (λ c κs. search needs)
+    returns)
