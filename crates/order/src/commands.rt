@@ -6,7 +6,9 @@ use movement::Motion;
 ghost use mathlib.Core.Path.{_≡_};
 ghost use mathlib.Core.Bool.{cond};
 ghost use lib.Dec.{leb};
-ghost use Rattle.calls.specs.Commands.{codes, lookUp, skips, decode, traitsOf, isUnlisted, isLoad};
+ghost use Rattle.movement.specs.declared.Motion.the-variants.{Skip};
+ghost use Rattle.calls.specs.declared.Command.the-variants.{Write, Move, Unlisted};
+ghost use Rattle.calls.specs.Commands.{nnnn, skips, decode, traitsOf, isUnlisted, isLoad};
 
 // A skip: 1nnnn and three low bits, nnnn from 1 to 12.
 fn is_skip(byte: u8, low: u8) -> bool
@@ -16,9 +18,23 @@ fn is_skip(byte: u8, low: u8) -> bool
     (byte / 128 == 1) & (byte % 8 == low) & (1 <= n) & (n <= 12)
 }
 
-// The bytes that are listed one by one.
-fn look_up(byte: u8) -> Command
-    ensures { λ r. ⌜ r ≡ lookUp codes byte ⌝ }
+// What a byte that is not listed by itself is: a skip, or no command.
+fn skip_of(byte: u8) -> Command
+    ensures { λ r. ⌜ r ≡ cond (skips byte 1) (Write (Skip (nnnn byte))) (cond (skips byte 3) (Move (Skip (nnnn byte))) Unlisted) ⌝ }
+{
+    let channel = byte / 8 % 16;
+    if is_skip(byte, 1) {
+        return Command::Write(Motion::Skip(channel));
+    }
+    if is_skip(byte, 3) {
+        return Command::Move(Motion::Skip(channel));
+    }
+    Command::Unlisted
+}
+
+// The bytes that are listed one by one are no skips, so that they can come first: a jump by the byte alone.
+pub fn decode(byte: u8) -> Command
+    ensures { λ r. ⌜ r ≡ decode byte ⌝ }
 {
     match byte {
         0x01 => Command::Write(Motion::Space(0)),
@@ -43,21 +59,8 @@ fn look_up(byte: u8) -> Command
         0x35 => Command::Loads(Load::CopyModification),
         0x43 => Command::Loads(Load::OverlaySequence),
         0x23 => Command::Loads(Load::CopyNumber),
-        _ => Command::Unlisted,
+        _ => skip_of(byte),
     }
-}
-
-pub fn decode(byte: u8) -> Command
-    ensures { λ r. ⌜ r ≡ decode byte ⌝ }
-{
-    let channel = byte / 8 % 16;
-    if is_skip(byte, 1) {
-        return Command::Write(Motion::Skip(channel));
-    }
-    if is_skip(byte, 3) {
-        return Command::Move(Motion::Skip(channel));
-    }
-    look_up(byte)
 }
 
 // No-Op and Sense.
