@@ -78,7 +78,7 @@ fn any_unprintable(codes: &[u8], p0: u8, p1: u8, p2: u8, p3: u8) -> bool
     ensures { λ r. ⌜ r ≡ any (unprintable (p0 ∷ p1 ∷ p2 ∷ p3 ∷ [])) (now (codes .entry)) ⌝ }
 {
     if all_fitted(p0, p1, p2, p3) {
-        return seq::any_above_by(16, 0xFE, codes);
+        return seq::any_above_by(32, 0xFE, codes);
     }
     any_by_module(codes, p0, p1, p2, p3)
 }
