@@ -2,20 +2,20 @@
 -- every line has the same units.
 use Prim.Native.Nat.{ℕ, zero, suc, _+_, _*_, _-_, _/_, _%_, _≤_, _<_}
 use mathlib.Core.Path.{_≡_, refl, sym, ap, _∙_}
-use mathlib.Core.Bool.{Bool, true, false, cond, not, _&&_, _||_, or-false, or-assoc, and-false}
+use mathlib.Core.Bool.{Bool, true, false, cond, not, _&&_, _||_, or-false, and-false}
 use mathlib.Core.List.{List, [], _∷_, _++_, append-nil}
 use native.Mathlib.Nat.{add-zero, add-assoc, div-zero}
-use native.Mathlib.Numerals.{add-one}
 use native.Mathlib.Omega.{arith}
 use lib.Dec.{eqb, leb, ltb}
 use lib.ListN.{length, getD, take, drop, length-drop, take-append-drop}
-use lib.Seq.{drop-drop, drop-cons, length-take-le, getD-take}
+use lib.Seq.{drop-drop, length-take-le, getD-take}
 use borrow.Author.Tests.{eqb-true, eqb-false, ltb-true, ltb-false, leb-true, eq-eqb, ne-eqb, lt-ltb, le-ltb, le-leb, lt-leb, not-true, not-false}
-use Rattle.seq.specs.Words.{any, every}
-use Rattle.seq.proofs.Laws.{and-left, and-right, or-left, or-right, above-zero}
-use Rattle.seq.proofs.Loops.{any-append, any-split, any-not-all}
+use Rattle.seq.specs.Scan.{past}
+use Rattle.seq.specs.Words.{any, every, zeroFrom}
+use Rattle.seq.proofs.Laws.{and-left, and-right, or-left, or-right}
+use Rattle.seq.proofs.Loops.{any-append, any-split, past-is}
 use Rattle.form.specs.Form.{upper, unitsOf, units, halfInch, runs, runsFrom, unitsTotal, between, linesWhere, printable, edges, oddRun, layoutOf, formsInRange, hasChannel}
-use Rattle.form.specs.Pass.{astray, uniform, loose}
+use Rattle.form.specs.Pass.{astray, uniform}
 use Rattle.form.proofs.FormLaws.{odd, units-has}
 
 -- No byte of a list is astray from the upper half u.
@@ -192,40 +192,31 @@ differs u b d h l e = go (eqb (b / 16) u) refl (ltb 12 (b % 16)) refl
     go true p false q = le-ltb 12 d (omega (arith, eqb-true (b / 16) u p, ltb-false 12 (b % 16) q))
     go false p t q = lt-ltb 12 d (omega (arith, eqb-false (b / 16) u p))
 
--- From no upper half, 00 alone does not differ.
-pub differs-within : (u b d : ℕ) (w : Bool) → u ≤ 15 → d < 256 → (d + cond w (16 * u) 0) % 256 ≡ b
-    → ltb (cond w 12 0) d ≡ cond w (astray u b) (not (eqb b 0))
-differs-within u b d true h l e = differs u b d h l e
-differs-within u b d false h l e = let q : d ≡ b = omega arith in rw q (above-zero b)
+-- So it lies past the upper half by more than 12 where it is astray.
+past-astray : (u b : ℕ) → u ≤ 15 → b ≤ 255 → past (16 * u) 12 b ≡ astray u b
+past-astray u b h l =
+    let d = (b + (256 - 16 * u)) % 256 in
+    let e : (d + 16 * u) % 256 ≡ b = omega arith in
+    sym (past-is (16 * u) 12 b d (omega arith) (omega arith) e) ∙ differs u b d h (omega arith) e
 
--- The scan of the bytes that a printer keeps: one more of them, and none left.
-loose-step : (u n i b : ℕ) (r : List ℕ) (t : Bool) → ltb i n ≡ t
-    → loose u (n - i) (b ∷ r) ≡ (cond t (astray u b) (not (eqb b 0)) || loose u (n - suc i) r)
-loose-step u n i b r true e = let q : n - i ≡ suc (n - suc i) = omega (arith, ltb-true i n e) in rw q (or-assoc (astray u b) _ _)
-loose-step u n i b r false e =
-    let p : n - i ≡ 0 = omega (arith, ltb-false i n e) in
-    let q : n - suc i ≡ 0 = omega (arith, ltb-false i n e) in
-    rw (p, q)
+any-past-astray : (u n : ℕ) (f : List ℕ) → u ≤ 15 → ((k : ℕ) → getD f k 0 ≤ 255) → any (past (16 * u) 12) (take n f) ≡ any (astray u) (take n f)
+any-past-astray u zero f h bytes = refl
+any-past-astray u (suc n) [] h bytes = refl
+any-past-astray u (suc n) (b ∷ f) h bytes =
+    rw (past-astray u b h (bytes 0)) (ap (λ (t : Bool). astray u b || t) (any-past-astray u n f h (λ k. bytes (suc k))))
 
-pub loose-more : (u n i : ℕ) (f : List ℕ) → i < length f
-    → loose u (n - i) (drop i f) ≡ (cond (ltb i n) (astray u (getD f i 0)) (not (eqb (getD f i 0) 0)) || loose u (n - (i + 1)) (drop (i + 1) f))
-loose-more u n i f h = rw (add-one, drop-cons f i 0 h) (loose-step u n i (getD f i 0) (drop (suc i) f) (ltb i n) refl)
-
-pub loose-none : (u n : ℕ) → loose u n [] ≡ false
-loose-none u zero = refl
-loose-none u (suc n) = refl
-
--- Where the scan finds nothing, the bytes are in range and the FCB has one spacing.
-pub uniform-kept : (len n : ℕ) (f : List ℕ) → 12 ≤ n → n ≤ 144 → length f ≡ 144
+-- Where the count leaves room, three tests are left: the sum, a scan of the FCB's bytes, and 00 after them.
+pub uniform-kept : (len n : ℕ) (f : List ℕ) → 12 ≤ n → n ≤ 144 → length f ≡ 144 → ((k : ℕ) → getD f k 0 ≤ 255)
     → (formsInRange (record { fcb = f; count = n }) && uniform len (take n f))
-    ≡ (eqb (12 * n) (halfInchLines f * len) && not (loose (upper (getD f 0 0)) n f))
+    ≡ (eqb (12 * n) (halfInchLines f * len) && (not (any (past (16 * upper (getD f 0 0)) 12) (take n f)) && zeroFrom n f))
 unfolding formsInRange every uniform
-uniform-kept len n f lo hi l =
-    rw (length-take-le n f (omega arith), getD-take n f 0 0 (omega arith), le-leb n 144 hi, le-leb 12 n lo, ← (any-not-all (λ b. eqb b 0) (drop n f)))
-    (both (eqb (12 * n) (halfInchLines f * len)) (any (astray (upper (getD f 0 0))) (take n f)) (any (λ b. not (eqb b 0)) (drop n f)))
+uniform-kept len n f lo hi l bytes =
+    let u = upper (getD f 0 0) in
+    rw (length-take-le n f (omega arith), getD-take n f 0 0 (omega arith), le-leb n 144 hi, le-leb 12 n lo, any-past-astray u n f (omega (arith, bytes 0)) bytes)
+    (both (eqb (12 * n) (halfInchLines f * len)) (not (any (astray u) (take n f))) (zeroFrom n f))
   where
-    both : (e a b : Bool) → ((not b && true) && (e && not a)) ≡ (e && not (a || b))
-    both e true true = sym (and-false e)
-    both e true false = refl
-    both e false true = sym (and-false e)
-    both e false false = refl
+    both : (e a z : Bool) → ((z && true) && (e && a)) ≡ (e && (a && z))
+    both e true true = refl
+    both e true false = sym (and-false e)
+    both e false true = refl
+    both e false false = sym (and-false e)

@@ -3,7 +3,7 @@
 use Prim.Native.Nat.{ℕ, _+_, _*_, _/_, _%_}
 use mathlib.Core.Bool.{Bool, false, not, _&&_, _||_}
 use mathlib.Core.List.{List}
-use lib.ListN.{length, getD, take, drop}
+use lib.ListN.{length, getD}
 use lib.Dec.{eqb, leb, ltb}
 use Rattle.seq.specs.Words.{any, bit}
 use Rattle.form.specs.declared.fcb.Pass.{Pass}
@@ -38,7 +38,3 @@ unfoldable pub uniform : ℕ → List ℕ → Bool
 uniform len f =
     let b = getD f 0 0 in
     leb 12 (length f) && (eqb (12 * length f) (halfInch / units b * len) && not (any (astray (upper b)) f))
-
--- The same asked of all bytes that a printer keeps, n of them the FCB: one of these is astray, or one after them is not 00.
-abbrev pub loose : ℕ → ℕ → List ℕ → Bool
-loose u n f = any (astray u) (take n f) || any (λ b. not (eqb b 0)) (drop n f)

@@ -4,15 +4,15 @@ use crate::Layout;
 use numbers::Cause;
 use numbers::Checked;
 ghost use mathlib.Core.Path.{_≡_};
-ghost use mathlib.Core.Bool.{true, cond, not, _&&_};
+ghost use mathlib.Core.Bool.{true, not, _&&_};
 ghost use mathlib.Core.List.{[], _∷_};
 ghost use Prim.Native.Nat.{_+_, _-_, _/_, _%_, _≤_};
-ghost use lib.Dec.{eqb, ltb};
+ghost use lib.Dec.{eqb};
 ghost use lib.ListN.{length, take};
 ghost use Rattle.seq.specs.Words.{any, listed};
 ghost use Rattle.form.specs.Form.{formLengths, pitchesListed, formOk, unitsOf, halfInch, hasChannel};
 ghost use Rattle.form.specs.Form.{layoutOf, layoutCheck, fcbCheck, formsInRange};
-ghost use Rattle.form.specs.Pass.{stepOf, astray, uniform, loose};
+ghost use Rattle.form.specs.Pass.{stepOf, uniform};
 
 const HALF_INCH: u16 = 12;
 
@@ -192,35 +192,8 @@ pub fn fcb_check(form: u16, fcb: &[u8]) -> Checked
     layout_check(form, layout)
 }
 
-// The byte at place k. One difference tests both halves of it: below the upper half it wraps, and is past 12 all the more. After the count any
-// but 00 is loose.
-fn is_loose(upper: u8, count: u8, k: u8, b: u8) -> bool
-    requires { ⌜ upper ≤ 15 ⌝ }
-    ensures { λ r. ⌜ r ≡ cond (ltb k count) (astray upper b) (not (eqb b 0)) ⌝ }
-{
-    let within = k < count;
-    let base = seq::pick(within, 16 * upper, 0);
-    seq::pick(within, 12, 0) < std::num::wrapping_sub_u8(b, base)
-}
-
-// All 144 whatever the count is, and the place as a byte beside the index: so the loop has no branch and a known end.
-fn any_loose(upper: u8, count: u8, fcb: &[u8]) -> bool
-    requires { ⌜ upper ≤ 15 ⌝ }
-    requires { ⌜ length (now fcb) ≡ 144 ⌝ }
-    ensures { λ r. ⌜ r ≡ loose upper count (now (fcb .entry)) ⌝ }
-{
-    let mut found = false;
-    let mut k: u8 = 0;
-    let mut i = 0;
-    while i < 144 {
-        found = found | is_loose(upper, count, k, fcb[i]);
-        k += 1;
-        i += 1;
-    }
-    found
-}
-
-// Whether the FCB that a printer keeps is in range and of one spacing throughout.
+// Whether the FCB that a printer keeps is in range and of one spacing throughout. How far a byte lies past the first one's upper half tests both of
+// its halves: that is its channel where the upper half is the same, and more than 12 at any other.
 fn is_kept_uniform(form: u16, fcb: &[u8], count: u8) -> bool
     requires { ⌜ length (now fcb) ≡ 144 ⌝ }
     ensures { λ r. ⌜ r ≡ (formsInRange (record { fcb = now (fcb .entry); count = count }) && uniform form (take count (now (fcb .entry)))) ⌝ }
@@ -233,7 +206,11 @@ fn is_kept_uniform(form: u16, fcb: &[u8], count: u8) -> bool
     }
     let upper = fcb[0] / 16;
     let k = half_inch_lines(upper);
-    (12 * seq::wide(count) == k as usize * form as usize) & !any_loose(upper, count, fcb)
+    let n = seq::wide(count);
+    if 12 * n != k as usize * form as usize {
+        return false;
+    }
+    !seq::any_above_by(32, 16 * upper, 12, &fcb[0..n]) & seq::zero_from(fcb, n)
 }
 
 // For any count: more bytes than there are is all there are.

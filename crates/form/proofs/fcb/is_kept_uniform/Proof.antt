@@ -1,9 +1,12 @@
--- The count, the room, the sum, and the scan: law `uniform-kept`.
+-- The count, the room, the sum, and what the scans find: law `uniform-kept`.
+use Prim.Native.Nat.{ℕ, _≤_}
+use mathlib.Core.Path.{refl}
 use mathlib.Core.Bool.{and-false}
-use native.Mathlib.Nat.{mul-le-mul-right}
+use native.Mathlib.Nat.{mul-le-mul-right, sub-zero}
 use native.Mathlib.Omega.{arith}
+use lib.ListN.{getD}
 use lib.Seq.{length-take-le}
-use borrow.Author.Tests.{lt-leb}
+use borrow.Author.Tests.{lt-leb, eq-eqb, ne-eqb}
 use borrow.Author.Needs.{needs}
 use Rattle.seq.specs.Words.{every}
 use Rattle.form.specs.Form.{formsInRange}
@@ -22,19 +25,33 @@ returns-2 c =
     let a = c .before .before .before .args in
     simp (length-take-le (a .count) (a .fcb .now) (search needs), lt-leb _ _ (c .if2 .taken), and-false)
 
-mul-result-2 : tie.Need-mul-result-2
-mul-result-2 c =
+mul-if3-2 : tie.Need-mul-if3-2
+mul-if3-2 c =
     omega (arith, mul-le-mul-right (c .before .before .before .before .before .before .args .form) (c .before .half-inch-lines .ensures .1))
-
-any-loose-requires : tie.Need-any-loose-requires
-any-loose-requires c κs = (omega (arith, c .before .before .shared-slice-known2 .given 0), search needs)
 
 returns-3 : tie.Need-returns-3
 returns-3 c =
     let h = c .before .before in
-    let a = h .before .before .before .before .before .args in
-    let law = uniform-kept (a .form) (a .count) (a .fcb .now) (search needs) (search needs) (search needs) in
-    rw (law, c .before .wide .ensures .0, h .half-inch-lines .ensures .0, c .any-loose .ensures)
+    let f = h .before .before .before .before in
+    let a = f .before .args in
+    let bytes : (k : ℕ) → getD (a .fcb .now) k 0 ≤ 255 = λ k. omega (arith, f .shared-slice-known .given k) in
+    let law = uniform-kept (a .form) (a .count) (a .fcb .now) (search needs) (search needs) (search needs) bytes in
+    let e = rw (c .before .wide .ensures .0, h .half-inch-lines .ensures .0) at (c .if3 .taken) in
+    rw (law, ne-eqb _ _ e)
+
+mul-any-above-by : tie.Need-mul-any-above-by
+mul-any-above-by c = omega (arith, c .before .before .before .shared-slice-known2 .given 0)
+
+returns-4 : tie.Need-returns-4
+returns-4 c =
+    let w = c .before .before .before .before in
+    let h = w .before in
+    let f = h .before .before .before .before in
+    let a = f .before .args in
+    let bytes : (k : ℕ) → getD (a .fcb .now) k 0 ≤ 255 = λ k. omega (arith, f .shared-slice-known .given k) in
+    let law = uniform-kept (a .form) (a .count) (a .fcb .now) (search needs) (search needs) (search needs) bytes in
+    let e = rw (w .wide .ensures .0, h .half-inch-lines .ensures .0) at (c .before .before .before .if3 .left) in
+    rw (law, eq-eqb _ _ e, c .before .any-above-by .ensures, c .zero-from .ensures, w .wide .ensures .0, sub-zero) refl
 
 pub is-kept-uniform-spec : {M : Type 1} → statement M
 is-kept-uniform-spec =
@@ -47,6 +64,12 @@ is-kept-uniform-spec =
     (λ c κs. search needs)
     (λ c. search needs)
     (λ c. search needs)
-    mul-result-2
-    any-loose-requires
-    returns-3)
+    mul-if3-2
+    returns-3
+    mul-any-above-by
+    (λ c. search needs)
+    (λ c. search needs)
+    (λ c. search needs)
+    (λ c κs. search needs)
+    (λ c κs. search needs)
+    returns-4)
