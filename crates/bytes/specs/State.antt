@@ -19,9 +19,9 @@ use Rattle.actions.specs.Whole.{keptSize}
 abbrev pub stateSize : ℕ
 stateSize = 184
 
--- Bytes 0 to 23: all but the two large arrays. A flag is 1 or 0.
-abbrev pub smallBytes : State → Sense → List ℕ
-smallBytes s q =
+-- Bytes 0 to 14: all that most commands leave as it is. A flag is 1 or 0.
+abbrev pub frontBytes : State → List ℕ
+frontBytes s =
     s .fixed .length / 256
     ∷ s .fixed .length % 256
     ∷ getD (s .fixed .pitches) 0 0
@@ -37,16 +37,25 @@ smallBytes s q =
     ∷ s .slots .selected
     ∷ s .copies .count
     ∷ s .copies .reference
-    ∷ s .sheet .line
-    ∷ boolByte (s .sheet .written)
-    ∷ boolByte (s .sheet .waiting)
-    ∷ boolByte (s .sheet .due)
+    ∷ []
+
+-- Bytes 15 to 23: the sheet and the sense.
+abbrev pub sheetBytes : Sheet → Sense → List ℕ
+sheetBytes x q =
+    x .line
+    ∷ boolByte (x .written)
+    ∷ boolByte (x .waiting)
+    ∷ boolByte (x .due)
     ∷ q .b0
     ∷ q .b1
     ∷ q .b2
     ∷ q .b22
     ∷ q .b23
     ∷ []
+
+-- Both: all but the two large arrays.
+abbrev pub smallBytes : State → Sense → List ℕ
+smallBytes s q = frontBytes s ++ sheetBytes (s .sheet) q
 
 -- All 184: then the overlay sequence's pairs, from 24 on, and the FCB's bytes, from 40 on.
 unfoldable pub bytesOf : State → Sense → List ℕ
@@ -88,19 +97,7 @@ readable s = every (eqb (length s) stateSize ∷ all (λ n. leb (byteAt s n) 1) 
 
 -- A state with another sheet and another sense: bytes 15 to 23 replaced.
 abbrev pub sheetOver : List ℕ → Sheet → Sense → List ℕ
-sheetOver s x q =
-    take 15 s
-    ++ ((x .line
-    ∷ boolByte (x .written)
-    ∷ boolByte (x .waiting)
-    ∷ boolByte (x .due)
-    ∷ q .b0
-    ∷ q .b1
-    ∷ q .b2
-    ∷ q .b22
-    ∷ q .b23
-    ∷ [])
-    ++ drop 9 (drop 15 s))
+sheetOver s x q = take 15 s ++ (sheetBytes x q ++ drop 9 (drop 15 s))
 
 -- The printer by value, which leaves its two arrays in these bytes.
 abbrev pub printerOf : List ℕ → Printer

@@ -58,13 +58,17 @@ fn sheet_ok(s: &[u8]) -> bool
     ((s[18] != 1) | waiting) & !((s[16] == 1) & waiting)
 }
 
+// The form length and the pitches, which take longest, come last.
 fn fields_ok(s: &[u8]) -> bool
     requires { ⌜ length (now s) ≡ 184 ⌝ }
     ensures { λ r. ⌜ r ≡ fieldsOk (stateAt (now (s .entry))) ⌝ }
 {
-    let fixed = fixed_ok(s);
     let sheet = sheet_ok(s);
-    fixed & (((s[8] == 1) & (s[12] <= 3)) & sheet)
+    let slots = (s[8] == 1) & (s[12] <= 3);
+    if !(slots & sheet) {
+        return false;
+    }
+    fixed_ok(s)
 }
 
 fn copies_ok(s: &[u8]) -> bool

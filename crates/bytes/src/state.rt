@@ -11,7 +11,7 @@ ghost use lib.ListN.{length, drop};
 ghost use lib.Dec.{leb};
 ghost use Rattle.seq.specs.Words.{all};
 ghost use Rattle.actions.specs.Whole.{stateOf};
-ghost use Rattle.bytes.specs.State.{smallBytes, byteAt, printerOf, flagPlaces, readable, stateAt, sheetOver};
+ghost use Rattle.bytes.specs.State.{frontBytes, smallBytes, byteAt, printerOf, flagPlaces, readable, stateAt, sheetOver};
 
 pub const STATE_BYTES: usize = 184;
 
@@ -95,13 +95,11 @@ pub fn decode(s: &[u8]) -> Printer
     }
 }
 
-fn small_bytes(p: Printer) -> [u8; 24]
-    ensures { λ r. ⌜ ((k : List ℕ) → r ≡ smallBytes (stateOf p k) (p .sense)) ⌝ }
+fn front_bytes(p: Printer) -> [u8; 15]
+    ensures { λ r. ⌜ ((k : List ℕ) → r ≡ frontBytes (stateOf p k)) ⌝ }
 {
     let fixed = p.fixed;
     let slots = p.slots;
-    let sheet = p.sheet;
-    let sense = p.sense;
     [
         (fixed.length / 256) as u8,
         (fixed.length % 256) as u8,
@@ -118,15 +116,6 @@ fn small_bytes(p: Printer) -> [u8; 24]
         slots.selected,
         p.pairs,
         p.reference,
-        sheet.line,
-        sheet.written as u8,
-        sheet.waiting as u8,
-        sheet.due as u8,
-        sense.b0,
-        sense.b1,
-        sense.b2,
-        sense.b22,
-        sense.b23,
     ]
 }
 
@@ -154,6 +143,7 @@ pub fn encode(p: Printer, s: &mut [u8])
     requires { ⌜ length (now s) ≡ 184 ⌝ }
     ensures { λ _. ⌜ ((k : List ℕ) → now (s .exit) ≡ smallBytes (stateOf p k) (p .sense) ++ drop 24 (now (s .entry))) ⌝ }
 {
-    let small = small_bytes(p);
-    seq::copy_all(&mut s[0..24], &small);
+    let front = front_bytes(p);
+    seq::copy_all(&mut s[0..15], &front);
+    put_sheet(p.sheet, p.sense, s);
 }

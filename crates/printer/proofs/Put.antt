@@ -12,8 +12,7 @@ use Rattle.movement.specs.declared.Motion.{Motion}
 use Rattle.movement.specs.Movement.{toTop}
 use Rattle.line.specs.Line.{noCauses}
 use Rattle.calls.specs.declared.Control.the-variants.{SenseIo, Clear}
-use Rattle.calls.specs.Core.{State, Stores, Core, withSheet, laidOut, started}
-use Rattle.calls.specs.Contents.{coreOk}
+use Rattle.calls.specs.Core.{State, Stores, Core, withSheet, started}
 use Rattle.calls.specs.Effects.{Effect, refused, done, movedCore, doMove, written, doWrite, standing, completing, doControl}
 use Rattle.calls.specs.Calls.{Outcome, outcomeOf}
 use Rattle.actions.specs.declared.Printer.{Printer}
@@ -21,7 +20,6 @@ use Rattle.actions.specs.declared.Step.{Step}
 use Rattle.actions.specs.Whole.{keptSize, lentWith, stateOf, coreOf, worldOf, outcome, Ready}
 use Rattle.bytes.specs.State.{smallBytes, bytesOf, byteAt, stateAt, senseAt, coreAt, worldAt, printerOf, keptAt, readable, sheetOver, left, bytesIn, leftBy}
 use Rattle.bytes.proofs.Round.{back, whole, laid, sheeted, readable-size}
-use Rattle.printer.proofs.Ready.{ready}
 
 -- a step as it is left, once the state has its printer's bytes
 pub left-so : {r : Step} {a : Answer} {b bytes : List ℕ} (k : List ℕ) {m : Stores} {o : Outcome} → outcome r b (lentWith k m) ≡ o → a ≡ r .answer
@@ -32,21 +30,18 @@ left-so k e h x = rw (h, x) (ap leftBy e)
 abbrev pub SheetAlone : (Core → Effect) → Type 0
 SheetAlone f = (k : Core) → f k .core .state ≡ withSheet (k .state) (f k .core .state .sheet)
 
+-- The printer by value, with its arrays where they lie, is the state that the bytes stand for; what is known of that, a method may count on.
+state-so : (s : List ℕ) {p : Printer} → readable s ≡ true → p ≡ printerOf s → stateOf p (keptAt s) ≡ stateAt s
+state-so s e d = ap (λ (q : Printer). stateOf q (keptAt s)) d ∙ whole s (readable-size s e)
+
+pub ready-so : (s : List ℕ) {p : Printer} {w : Layout} → readable s ≡ true → p ≡ printerOf s → Ready (stateAt s) w → Ready (stateOf p (keptAt s)) w
+ready-so s e d h = rw (state-so s e d) h
+
 module _ (s : List ℕ) (m : Stores) {p : Printer} (e : readable s ≡ true) (d : p ≡ printerOf s) where
-  pub core-so : coreOf p (lentWith (keptAt s) m) ≡ coreAt s m
-  core-so =
-      ap (λ (q : Printer). coreOf q (lentWith (keptAt s) m)) d
-      ∙ ap (λ (t : State). record { state = t; stores = m }) (whole s (readable-size s e))
-
-  -- once the contents are found good, and w is the form laid out, a method may count on both
-  pub ready-so : {w : Layout} → w ≡ laidOut (stateAt s) → coreOk (coreAt s m) ≡ true → Ready (stateOf p (keptAt s)) w
-  ready-so h g =
-      ready (coreOf p (lentWith (keptAt s) m)) _ (h ∙ ap (λ (k : Core). laidOut (k .state)) (sym core-so)) (ap coreOk core-so ∙ g)
-
   -- what a method on the printer does, it does to what the bytes stand for
   pub of-bytes : (b : List ℕ) {o : Outcome} (f : Core → Effect) → o ≡ outcomeOf (p .sense) b (f (coreOf p (lentWith (keptAt s) m)))
       → o ≡ outcomeOf (senseAt s) b (f (coreAt s m))
-  of-bytes b f h = h ∙ (λ i. outcomeOf (d i .sense) b (f (core-so i)))
+  of-bytes b f h = h ∙ (λ i. outcomeOf (d i .sense) b (f (record { state = state-so s e d i; stores = m })))
 
   pub all-so : {r : Step} {a : Answer} {b bytes : List ℕ} (b₀ : List ℕ) (f : Core → Effect) (k : List ℕ) {m′ : Stores}
       → outcome r b (lentWith k m′) ≡ outcomeOf (p .sense) b₀ (f (coreOf p (lentWith (keptAt s) m))) → a ≡ r .answer → length k ≡ length (keptAt s)

@@ -4,25 +4,29 @@ use actions::Step;
 use bytes::state;
 use calls::Command;
 use calls::Control;
+use calls::Load;
 use form::Layout;
+use movement::Motion;
 use numbers::Answer;
 use numbers::Refusal;
 ghost use mathlib.Core.Path.{_≡_};
 ghost use mathlib.Core.Bool.{true, false, _&&_};
 ghost use mathlib.Core.List.{List, [], _∷_, _++_};
-ghost use Prim.Native.Nat.{ℕ};
+ghost use Prim.Native.Nat.{ℕ, _≤_};
 ghost use lib.Dec.{ltb};
 ghost use lib.ListN.{length, drop};
 ghost use Rattle.seq.specs.Words.{firstOr};
+ghost use Rattle.numbers.specs.declared.Checked.the-variants.{Sound};
 ghost use Rattle.numbers.specs.declared.Refusal.the-variants.{Accepted};
 ghost use Rattle.form.specs.Form.{formOk};
-ghost use Rattle.calls.specs.Core.{storesOf, laidOut};
+ghost use Rattle.calls.specs.declared.Control.the-variants.{Initialize};
+ghost use Rattle.calls.specs.Core.{Stores, storesOf, laidOut};
 ghost use Rattle.calls.specs.Commands.{controlTraits};
 ghost use Rattle.calls.specs.Reset.{senseSize};
-ghost use Rattle.calls.specs.Effects.{doControl, doCommand};
+ghost use Rattle.calls.specs.Effects.{doMove, doWrite, loadCheck, doLoad, doControl, doCommand};
 ghost use Rattle.calls.specs.Calls.{command, compose, release, commandTests, outcomeOf, step};
 ghost use Rattle.calls.specs.Start.{startOutcome};
-ghost use Rattle.actions.specs.Whole.{stateOf};
+ghost use Rattle.actions.specs.Whole.{stateOf, Ready};
 ghost use Rattle.bytes.specs.State.{smallBytes, stateAt, senseAt, coreAt, worldAt, readable, sheetOver, left, leftBy};
 ghost use Rattle.bytes.specs.Contents.{soundBytes};
 
@@ -81,7 +85,78 @@ pub fn start(
     put_all(Printer::none(refusal), state)
 }
 
-// A control command, a method each. No-Op changes nothing.
+// Write, then space or skip.
+fn write(
+    form: Layout,
+    motion: Motion,
+    sent: &[u8],
+    state: &mut [u8],
+    page: &mut [u8],
+    tables: &[u8],
+) -> Answer
+    requires { ⌜ length (now state) ≡ 184 ⌝ }
+    requires { ⌜ readable (now state) ≡ true ⌝ }
+    requires { ⌜ Ready (stateAt (now state)) form ⌝ }
+    requires { ⌜ length (now sent) ≤ 204 ⌝ }
+    requires { ⌜ length (now page) ≡ 26928 ⌝ }
+    requires { ⌜ length (now tables) ≡ 1024 ⌝ }
+    ensures { λ r. ⌜ ((b l : List ℕ) → left r b (now (state .exit)) (storesOf (now (page .exit)) l (now (tables .entry)))
+        ≡ leftBy (outcomeOf (senseAt (now (state .entry))) b
+        (doWrite (coreAt (now (state .entry)) (storesOf (now (page .entry)) l (now (tables .entry)))) motion (now (sent .entry))))) ⌝ }
+{
+    let p = state::decode(state);
+    let step = p.write(form, motion, sent, &state[24..184], page, tables);
+    put_sheet(step, state)
+}
+
+// The immediate commands.
+fn move_on(form: Layout, motion: Motion, state: &mut [u8]) -> Answer
+    requires { ⌜ length (now state) ≡ 184 ⌝ }
+    requires { ⌜ readable (now state) ≡ true ⌝ }
+    requires { ⌜ Ready (stateAt (now state)) form ⌝ }
+    ensures { λ r. ⌜ ((b : List ℕ) (m : Stores) → left r b (now (state .exit)) m
+        ≡ leftBy (outcomeOf (senseAt (now (state .entry))) b (doMove (coreAt (now (state .entry)) m) motion))) ⌝ }
+{
+    let p = state::decode(state);
+    let step = p.move_on(form, motion, &state[24..184]);
+    put_sheet(step, state)
+}
+
+// The five loads.
+fn load(load: Load, sent: &[u8], state: &mut [u8], legends: &mut [u8], tables: &mut [u8]) -> Answer
+    requires { ⌜ length (now state) ≡ 184 ⌝ }
+    requires { ⌜ readable (now state) ≡ true ⌝ }
+    requires { ⌜ formOk (stateAt (now state) .fixed .length) (stateAt (now state) .fixed .pitches) ≡ true ⌝ }
+    requires { ⌜ stateAt (now state) .slots .selected ≤ 3 ⌝ }
+    requires { ⌜ loadCheck (stateAt (now state) .fixed .length) load (now sent) ≡ Sound ⌝ }
+    requires { ⌜ length (now sent) ≤ 8192 ⌝ }
+    requires { ⌜ length (now legends) ≡ 8192 ⌝ }
+    requires { ⌜ length (now tables) ≡ 1024 ⌝ }
+    ensures { λ r. ⌜ ((b p : List ℕ) → left r b (now (state .exit)) (storesOf p (now (legends .exit)) (now (tables .exit)))
+        ≡ leftBy (outcomeOf (senseAt (now (state .entry))) b
+        (doLoad (coreAt (now (state .entry)) (storesOf p (now (legends .entry)) (now (tables .entry)))) load (now (sent .entry))))) ⌝ }
+{
+    let p = state::decode(state);
+    let step = p.load(load, sent, &mut state[24..184], legends, tables);
+    put_all(step, state)
+}
+
+fn initialize(state: &mut [u8], legends: &mut [u8], tables: &mut [u8]) -> Answer
+    requires { ⌜ length (now state) ≡ 184 ⌝ }
+    requires { ⌜ readable (now state) ≡ true ⌝ }
+    requires { ⌜ formOk (stateAt (now state) .fixed .length) (stateAt (now state) .fixed .pitches) ≡ true ⌝ }
+    requires { ⌜ length (now legends) ≡ 8192 ⌝ }
+    requires { ⌜ length (now tables) ≡ 1024 ⌝ }
+    ensures { λ r. ⌜ ((b p : List ℕ) → left r b (now (state .exit)) (storesOf p (now (legends .exit)) (now (tables .exit)))
+        ≡ leftBy (outcomeOf (senseAt (now (state .entry))) b
+        (doControl (coreAt (now (state .entry)) (storesOf p (now (legends .entry)) (now (tables .entry)))) Initialize))) ⌝ }
+{
+    let p = state::decode(state);
+    let step = p.initialize(&mut state[24..184], legends, tables);
+    put_all(step, state)
+}
+
+// The control commands, a method each. No-Op changes nothing.
 fn control(
     control: Control,
     reply: &mut [u8],
@@ -105,11 +180,7 @@ fn control(
             step.answer
         }
         Control::SenseIo => put_sheet(state::decode(state).sense_io(reply), state),
-        Control::Initialize => {
-            let p = state::decode(state);
-            let step = p.initialize(&mut state[24..184], legends, tables);
-            put_all(step, state)
-        }
+        Control::Initialize => initialize(state, legends, tables),
         Control::Clear => put_sheet(state::decode(state).clear(), state),
         Control::Block => put_all(state::decode(state).block(true), state),
         Control::Allow => put_all(state::decode(state).block(false), state),
@@ -117,7 +188,7 @@ fn control(
     }
 }
 
-// An accepted command, a method each. The state is decoded by each for itself, so that none decodes a field that it does not ask for.
+// An accepted command. The state is decoded in each case for itself, so that none decodes a field that it does not ask for.
 fn perform(
     form: Layout,
     command: Command,
@@ -138,22 +209,10 @@ fn perform(
         (coreAt (now (state .entry)) (storesOf (now (page .entry)) (now (legends .entry)) (now (tables .entry)))) command (now (sent .entry)))) ⌝ }
 {
     match command {
-        Command::Write(motion) => {
-            let p = state::decode(state);
-            let step = p.write(form, motion, sent, &state[24..184], page, tables);
-            put_sheet(step, state)
-        }
-        Command::Move(motion) => {
-            let p = state::decode(state);
-            let step = p.move_on(form, motion, &state[24..184]);
-            put_sheet(step, state)
-        }
+        Command::Write(motion) => write(form, motion, sent, state, page, tables),
+        Command::Move(motion) => move_on(form, motion, state),
         Command::Controls(which) => control(which, reply, state, legends, tables),
-        Command::Loads(load) => {
-            let p = state::decode(state);
-            let step = p.load(load, sent, &mut state[24..184], legends, tables);
-            put_all(step, state)
-        }
+        Command::Loads(which) => load(which, sent, state, legends, tables),
         Command::Unlisted => put_sheet(state::decode(state).refuse(Refusal::NotListed, 0), state),
     }
 }

@@ -16,6 +16,7 @@ use Rattle.actions.specs.declared.Printer.{Printer}
 use Rattle.bytes.specs.State.{stateAt, coreAt, worldAt}
 use Rattle.bytes.proofs.Parts.{sound-read, sound-good}
 use Rattle.printer.proofs.Put.{ready-so, of-bytes, same-so}
+use Rattle.printer.proofs.Ready.{ready}
 use Rattle.printer.proofs.Steps.{accepted-so, refused-so}
 use borrow.Author.Needs.{needs}
 use Rattle.printer.proofs.compose.Statement.{statement}
@@ -57,7 +58,7 @@ cast-print-copy c =
 print-copy-requires : tie.Need-print-copy-requires
 print-copy-requires c κs =
     let t = c .before .before in let s = c .before .before .before .before .before .before .before .before .before .before .before .before .before in let k = taken t in let g = good _ (k .ok) in (
-      ready-so (s .args .state .now) (stores s) (sound-read _ _ (s .pre .1 .0)) (c .before .before .before .before .before .before .before .decode .ensures) (s .pre .1 .1) (k .ok),
+      ready-so (s .args .state .now) (sound-read _ _ (s .pre .1 .0)) (c .before .before .before .before .before .before .before .decode .ensures) (ready _ _ (s .pre .1 .1) (k .ok)),
       (
         search needs,
         (k .low, (few t, (g .legends, (g .sizes .page, rw (form-lines (stateAt (s .args .state .now)) _ (s .pre .1 .1)) (k .room))))),

@@ -1,16 +1,13 @@
 -- Each field in its place: by computation.
 use mathlib.Core.Path.{refl}
 use borrow.Author.Needs.{needs}
-use Rattle.bytes.proofs.state.small_bytes.Statement.{statement}
-use Rattle.bytes.proofs.state.small_bytes.Tie as tie
+use Rattle.bytes.proofs.state.front_bytes.Statement.{statement}
+use Rattle.bytes.proofs.state.front_bytes.Tie as tie
 
-pub small-bytes-spec : {M : Type 1} → statement M
-small-bytes-spec =
+pub front-bytes-spec : {M : Type 1} → statement M
+front-bytes-spec =
     tie.close
     (tie.spec
-    (λ c. search needs)
-    (λ c. search needs)
-    (λ c. search needs)
     (λ c. search needs)
     (λ c. search needs)
     (λ c. search needs)
