@@ -54,10 +54,10 @@ need() { # COMMAND...
     [ -z "$missing" ] || install_packages $missing
 }
 
-# The crate or must-fail edit whose log rt wrote last.
+# The crate whose log rt wrote last.
 rt_is_at() {
     # shellcheck disable=SC2012
-    ls -t target/log/*.say target/must-fail/*/*/.log 2>/dev/null | sed -n '1s,^target/[^/]*/,,; 1s,\.say$,,; 1s,/\.log$,,; 1p'
+    ls -t target/log/*.say 2>/dev/null | sed -n '1s,^target/log/,,; 1s,\.say$,,; 1p'
 }
 
 # Says what rt is at and for how long so far: on a terminal in one line that is written anew, else every 30 s. Ends with the script that called it.
