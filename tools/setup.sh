@@ -12,8 +12,8 @@ LIBRARY=target/staticlib/libtrestlepip.a
 LEVEL=-O2
 TRAPS=''
 
-# rt proves a level of crates.txt, and tries its edits, so many at a time, and waits for all of them before it goes on. No level has more than three crates:
-# fewer at a time, as rt chooses on two processors, leave one idle.
+# rt proves the crates of a level of crates.txt so many at a time, and waits for all of them before it goes on. No level has more than three: fewer at a
+# time, as rt chooses on two processors, leave one idle.
 export RT_JOBS="${RT_JOBS:-4}"
 
 stop() { # WORDS...
