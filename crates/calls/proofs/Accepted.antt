@@ -9,20 +9,19 @@ use lib.Dec.{eqb, ltb}
 use lib.ListN.{length}
 use Rattle.seq.specs.Words.{when, firstOr}
 use Rattle.seq.proofs.Laws.{or-left, or-right, passed}
+use Rattle.numbers.specs.Sizes.{lineBytes, senseSize}
 use Rattle.numbers.specs.declared.Cause.{Cause}
 use Rattle.numbers.specs.declared.Checked.the-variants.{Sound}
 use Rattle.numbers.specs.declared.Refusal.the-variants.{Accepted, NotListed, BadRecord, LoadCheck, PageWaiting, PageStarted, TooShort, BadStore, TwoPages}
 use Rattle.numbers.specs.Numbers.{rowOf, numberOf, isAccepted, checked}
 use Rattle.numbers.proofs.Laws.{accepted-is, not-accepted, passed-check, goes-on}
 use Rattle.form.specs.Form.{formOk}
-use Rattle.line.specs.Line.{lineBytes}
 use Rattle.copies.specs.Copies.{copyCount}
 use Rattle.calls.specs.declared.Command.{Command}
 use Rattle.calls.specs.declared.Command.the-variants.{Write, Move, Controls, Loads, Unlisted}
 use Rattle.calls.specs.Core.{Stores, Core, sizesOk, P, started}
 use Rattle.calls.specs.Commands.{decode, traitsOf, isUnlisted, isLoad}
 use Rattle.calls.specs.Contents.{coreOk}
-use Rattle.calls.specs.Reset.{senseSize}
 use Rattle.calls.specs.Calls.{command, badRecord, checkOf, commandTests, composeTests, refusalOf}
 use Rattle.calls.specs.Start.{startRefusal}
 

@@ -11,6 +11,7 @@ use lib.Dec.{eqb, leb, ltb, lit≤}
 use borrow.Author.Tests.{leb-true, le-leb, ltb-false}
 use Rattle.seq.specs.Words.{all, every, empty}
 use Rattle.seq.proofs.Laws.{and-left, and-right, or-right, cond-has, every-at, finally, also, every-of, padded-take, padded-zero}
+use Rattle.numbers.specs.Sizes.{slotSize, tableSize, pageSize}
 use Rattle.numbers.specs.declared.Checked.the-variants.{Sound}
 use Rattle.numbers.specs.declared.Refusal.the-variants.{NoPage, BadIndex, TooShort, BadStore}
 use Rattle.numbers.specs.Numbers.{rowOf, numberOf, isAccepted}
@@ -22,9 +23,10 @@ use Rattle.movement.specs.Movement.{toTop}
 use Rattle.form.proofs.FormLaws.{form-listed}
 use Rattle.movement.proofs.MovementLaws.{down, over, Went, stays, goes, went}
 use Rattle.line.specs.declared.Slots.{Slots}
-use Rattle.line.specs.Line.{slotSize, tableSize, pageSize, serving, translated, slotsInRange}
+use Rattle.line.specs.Line.{serving, translated, slotsInRange}
 use Rattle.line.proofs.LineLaws.{length-translated, length-lineCells, length-pageWritten, length-putSlot}
-use Rattle.copies.specs.Copies.{Copies, sequenceCheck, numberCheck, tableCheck, withSequence, withReference, copiesInRange}
+use Rattle.copies.specs.declared.Copies.{Copies}
+use Rattle.copies.specs.Copies.{sequenceCheck, numberCheck, tableCheck, withSequence, withReference, copiesInRange}
 use Rattle.legends.specs.Legends.{legendCheck}
 use Rattle.copies.proofs.CopiesLaws.{table-long, sequence-fits, number-some}
 use Rattle.legends.proofs.LegendLaws.{stored-size, stored-ok}

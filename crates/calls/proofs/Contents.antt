@@ -3,9 +3,9 @@
 use Prim.Native.Nat.{ℕ, zero, suc}
 use mathlib.Core.Path.{_≡_, refl}
 use mathlib.Core.Bool.{Bool, true, false, cond, not}
-use mathlib.Core.List.{List, [], _∷_, _++_, map}
+use mathlib.Core.List.{List, [], _∷_, _++_, map, flatten}
 use lib.ListN.{length, set, replicate}
-use Rattle.seq.specs.Words.{joined, when, firstOr, every, from, zeros, padded}
+use Rattle.seq.specs.Words.{when, firstOr, every, from, zeros, padded}
 use Rattle.numbers.specs.Numbers.{rowOf, numberOf, isSound}
 use Rattle.form.specs.Form.{formLengths, pitchesListed, pitchesOk, formOk, unitsOf, runsFrom, runs, unitsTotal, linesWhere, printable, edges, fcbCheck, layoutCheck, layoutOf, startFcb, formsOf, formsInRange}
 use Rattle.line.specs.Line.{startTable, startTables, startSlots, slotsInRange}
@@ -65,7 +65,7 @@ broken =
     -- a field outside its range: form and pitches
     ∷ breaks 1 (with-form 108 (10 ∷ 10 ∷ 10 ∷ 10 ∷ [])) ∷ breaks 1 (with-form 84 (10 ∷ 11 ∷ 10 ∷ 10 ∷ [])) ∷ breaks 1 (with-form 84 (0 ∷ 10 ∷ 10 ∷ 10 ∷ []))
     -- a count and the bytes after it
-    ∷ breaks 1 (with-fcb (set fcb84 143 1) 21) ∷ breaks 1 (with-copies (set one 15 1) 2 1) ∷ breaks 1 (with-copies (1 ∷ 0 ∷ joined (replicate 7 (1 ∷ 1 ∷ []))) 17 1)
+    ∷ breaks 1 (with-fcb (set fcb84 143 1) 21) ∷ breaks 1 (with-copies (set one 15 1) 2 1) ∷ breaks 1 (with-copies (1 ∷ 0 ∷ flatten (replicate 7 (1 ∷ 1 ∷ []))) 17 1)
     -- slot 0, the selection, the copy number
     ∷ breaks 1 (with-slots false 0) ∷ breaks 1 (with-slots true 4) ∷ breaks 1 (with-copies one 2 0)
     -- the current line
@@ -96,7 +96,7 @@ allowed =
 -- Broken contents break the one clause, and no other; what is allowed breaks none.
 pub each-alone : (map (λ b. clauses (b .core)) broken ≡ map (λ b. set (replicate 7 true) (b .clause) false) broken)
     × (map clauses allowed ≡ replicate 11 (replicate 7 true))
-unfolding broken allowed joined when firstOr every padded isSound formLengths pitchesListed pitchesOk formOk unitsOf runsFrom runs unitsTotal linesWhere printable edges fcbCheck layoutCheck layoutOf startFcb formsOf formsInRange startTable startTables startSlots slotsInRange pairsOf copiesOf sequenceCheck startCopies copiesInRange badHead cut segments legendCheck storedSegments legendsOk noLegends sizesOk linesNow lineOk rangesOk dueOk markOk blankSheet noCells resetState resetStores fresh
+unfolding broken allowed flatten when firstOr every padded isSound formLengths pitchesListed pitchesOk formOk unitsOf runsFrom runs unitsTotal linesWhere printable edges fcbCheck layoutCheck layoutOf startFcb formsOf formsInRange startTable startTables startSlots slotsInRange pairsOf copiesOf sequenceCheck startCopies copiesInRange badHead cut segments legendCheck storedSegments legendsOk noLegends sizesOk linesNow lineOk rangesOk dueOk markOk blankSheet noCells resetState resetStores fresh
 each-alone = (refl, refl)
 
 -- All cell and table bytes are allowed. (So is all legend text: `stored-ok` holds whatever the text is translated to.)

@@ -2,7 +2,7 @@
 use Prim.Native.Nat.{ℕ}
 use mathlib.Core.Path.{_≡_, refl}
 use mathlib.Core.Bool.{Bool, true, false}
-use mathlib.Core.List.{List, [], _∷_, _++_, map}
+use mathlib.Core.List.{List, [], _∷_, _++_, map, flatten, zipWith}
 use lib.ListN.{replicate}
 use Rattle.seq.specs.Words.{zeros}
 use Rattle.numbers.specs.declared.Sense.{Sense}
@@ -14,7 +14,7 @@ use Rattle.numbers.specs.Numbers.{sense3, noSense}
 use Rattle.calls.specs.declared.Sheet.{Sheet}
 use Rattle.calls.specs.Core.{Stores, World}
 use Rattle.calls.specs.Calls.{Call, command, compose, release, Outcome}
-use Rattle.seq.specs.Words.{joined, zipped, when, firstOr, every, padded}
+use Rattle.seq.specs.Words.{when, firstOr, every, padded}
 use Rattle.numbers.specs.Numbers.{causeOf, rowOf, isAccepted, checked, isSound}
 use Rattle.form.specs.Form.{formLengths, pitchesListed, pitchesOk, formOk, unitsOf, runsFrom, runs, unitsTotal, linesWhere, printable, edges, fcbCheck, layoutCheck, layoutOf, channelAt, startFcb, formsOf, formsInRange}
 use Rattle.movement.specs.Movement.{entered, round, upToFirst, spaced, skipped, moved, still, toTop}
@@ -230,5 +230,5 @@ abbrev counted : Counted → Counted
 counted l = let s = sinceReset (begun tens) (l .calls) in record { calls = l .calls; switch = s .switch; deeds = s .deeds }
 
 pub table : (map see (rows ++ ours) ≡ map (λ r. r .want) (rows ++ ours)) × (map counted lists ≡ lists)
-unfolding rows ours lists joined zipped when firstOr every padded causeOf rowOf isAccepted checked isSound formLengths pitchesListed pitchesOk formOk unitsOf runsFrom runs unitsTotal linesWhere printable edges fcbCheck layoutCheck layoutOf channelAt startFcb formsOf formsInRange entered round upToFirst spaced skipped moved still toTop slotAt putSlot isLoaded serving unprintable standIn cellOf translated anyUnprintable lineCells mergeRules mergeCell collides mergeLine anyCollides lineAt putLine pageWritten noCauses lineCauses orUnmatched causeByte startTable startTables startSlots slotsInRange tableCheck pairsOf copiesOf sequenceCheck markIn numberCheck withSequence withReference startCopies copyCount copyNumber copyMark copiesInRange segmentOf badHead cut segments legendCheck storedLegends legendText storedSegments legendsOk noLegends covers shown copyFrom composed sizesOk linesNow started codes lookUp decode controlTraits traitsOf lineOk rangesOk dueOk markOk coreOk blankSheet noCells resetState resetStores reset fresh byte3 senseBytes refused done movedSheet moveOf doMove marked written writeCauses doWrite loadCheck atLine1 slotLoaded slotSelected loaded loadCauses doLoad completing doControl doCommand checkOf movement refusalOf copyAt doCompose emptied released doRelease perform effect step startRefusal startWorld noState noPrinter startOutcome worldAfter counts readOf deedOf finishesReset sinceNow note sinceOver sinceReset copiesOfPage given
+unfolding rows ours lists flatten zipWith when firstOr every padded causeOf rowOf isAccepted checked isSound formLengths pitchesListed pitchesOk formOk unitsOf runsFrom runs unitsTotal linesWhere printable edges fcbCheck layoutCheck layoutOf channelAt startFcb formsOf formsInRange entered round upToFirst spaced skipped moved still toTop slotAt putSlot isLoaded serving unprintable standIn cellOf translated anyUnprintable lineCells mergeRules mergeCell collides mergeLine anyCollides lineAt putLine pageWritten noCauses lineCauses orUnmatched causeByte startTable startTables startSlots slotsInRange tableCheck pairsOf copiesOf sequenceCheck markIn numberCheck withSequence withReference startCopies copyCount copyNumber copyMark copiesInRange segmentOf badHead cut segments legendCheck storedLegends legendText storedSegments legendsOk noLegends covers shown copyFrom composed sizesOk linesNow started codes lookUp decode controlTraits traitsOf lineOk rangesOk dueOk markOk coreOk blankSheet noCells resetState resetStores reset fresh byte3 senseBytes refused done movedSheet moveOf doMove marked written writeCauses doWrite loadCheck atLine1 slotLoaded slotSelected loaded loadCauses doLoad completing doControl doCommand checkOf movement refusalOf copyAt doCompose emptied released doRelease perform effect step startRefusal startWorld noState noPrinter startOutcome worldAfter counts readOf deedOf finishesReset sinceNow note sinceOver sinceReset copiesOfPage given
 table = (refl, refl)

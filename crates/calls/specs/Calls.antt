@@ -6,6 +6,7 @@ use mathlib.Core.List.{List, [], _∷_, _++_}
 use lib.ListN.{length, drop}
 use lib.Dec.{eqb, ltb}
 use Rattle.seq.specs.Words.{when, firstOr, empty}
+use Rattle.numbers.specs.Sizes.{lineWidth, lineBytes, legendSize, senseSize}
 use Rattle.numbers.specs.declared.Answer.{Answer}
 use Rattle.numbers.specs.declared.Sense.{Sense}
 use Rattle.numbers.specs.declared.Checked.{Checked}
@@ -15,15 +16,14 @@ use Rattle.numbers.specs.declared.Refusal.the-variants.{Accepted, NotListed, Ba
 use Rattle.numbers.specs.Numbers.{keep, senseAfter, isAccepted, only, checked}
 use Rattle.movement.specs.declared.Moved.{Moved}
 use Rattle.movement.specs.Movement.{toTop}
-use Rattle.line.specs.Line.{lineWidth, lineBytes}
 use Rattle.copies.specs.Copies.{copyCount, copyNumber, copyMark}
-use Rattle.legends.specs.Legends.{legendSize, composed}
+use Rattle.legends.specs.Legends.{composed}
 use Rattle.calls.specs.declared.Command.{Command}
 use Rattle.calls.specs.declared.Command.the-variants.{Write, Move, Controls, Loads, Unlisted}
 use Rattle.calls.specs.Core.{Core, World, withState, withPage, withSheet, P, started}
 use Rattle.calls.specs.Commands.{decode, controlTraits, traitsOf, isUnlisted, isLoad}
 use Rattle.calls.specs.Contents.{coreOk}
-use Rattle.calls.specs.Reset.{blankSheet, noCells, reset, senseSize}
+use Rattle.calls.specs.Reset.{blankSheet, noCells, reset}
 use Rattle.calls.specs.Effects.{Effect, nothing, refused, moveOf, standing, loadCheck, doCommand}
 
 -- Calls: a command has a byte, a record and a reply buffer; Compose a copy index from 1 and an output buffer.

@@ -5,13 +5,13 @@ use mathlib.Core.List.{List, [], _∷_}
 use lib.ListN.{length}
 use lib.Dec.{eqb}
 use Rattle.seq.specs.Words.{every}
+use Rattle.numbers.specs.Sizes.{pageSize, tableSize, legendSize}
 use Rattle.numbers.specs.declared.Sense.{Sense}
 use Rattle.form.specs.declared.Layout.{Layout}
-use Rattle.form.specs.Form.{Forms, fcbNow, printable, layoutOf}
+use Rattle.form.specs.declared.Forms.{Forms}
+use Rattle.form.specs.Form.{fcbNow, printable, layoutOf}
 use Rattle.line.specs.declared.Slots.{Slots}
-use Rattle.line.specs.Line.{pageSize, tableSize}
-use Rattle.copies.specs.Copies.{Copies}
-use Rattle.legends.specs.Legends.{legendSize}
+use Rattle.copies.specs.declared.Copies.{Copies}
 use Rattle.calls.specs.declared.Fixed.{Fixed}
 use Rattle.calls.specs.declared.Sheet.{Sheet}
 

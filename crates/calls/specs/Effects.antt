@@ -5,6 +5,7 @@ use mathlib.Core.List.{List, []}
 use lib.ListN.{length, getD, take, set}
 use lib.Dec.{eqb}
 use Rattle.seq.specs.Words.{bit}
+use Rattle.numbers.specs.Sizes.{slotSize}
 use Rattle.numbers.specs.declared.Sense.{Sense}
 use Rattle.numbers.specs.declared.Answer.{Answer}
 use Rattle.numbers.specs.declared.Checked.{Checked}
@@ -17,7 +18,7 @@ use Rattle.form.specs.Form.{fcbCheck, formsOf}
 use Rattle.movement.specs.Movement.{moved, still, toTop}
 use Rattle.line.specs.declared.Slots.{Slots}
 use Rattle.line.specs.declared.Causes.{Causes}
-use Rattle.line.specs.Line.{slotSize, putSlot, serving, translated, lineCells, lineAt, pageWritten, noCauses, lineCauses, orUnmatched, causeByte}
+use Rattle.line.specs.Line.{putSlot, serving, translated, lineCells, lineAt, pageWritten, noCauses, lineCauses, orUnmatched, causeByte}
 use Rattle.copies.specs.Copies.{tableCheck, sequenceCheck, numberCheck, withSequence, withReference}
 use Rattle.legends.specs.Legends.{legendCheck, storedLegends, legendText}
 use Rattle.calls.specs.declared.Sheet.{Sheet}

@@ -3,9 +3,10 @@ use Prim.Native.Nat.{ℕ, _+_}
 use mathlib.Core.Bool.{Bool, false, not, _&&_}
 use mathlib.Core.List.{List, [], _∷_, _++_}
 use Rattle.seq.specs.Words.{bit, zeros}
+use Rattle.numbers.specs.Sizes.{pageSize}
 use Rattle.numbers.specs.declared.Sense.{Sense}
 use Rattle.form.specs.Form.{startFcb, formsOf}
-use Rattle.line.specs.Line.{pageSize, startSlots, startTables}
+use Rattle.line.specs.Line.{startSlots, startTables}
 use Rattle.copies.specs.Copies.{startCopies}
 use Rattle.legends.specs.Legends.{noLegends}
 use Rattle.calls.specs.declared.Fixed.{Fixed}
@@ -36,9 +37,6 @@ unfoldable pub fresh : Fixed → Bool → Core
 fresh f blocked = record { state = resetState f blocked; stores = resetStores noCells }
 
 -- The 24 bytes that Sense replies: five that are kept, byte 3 as the printer stands, and zeros.
-abbrev pub senseSize : ℕ
-senseSize = 24
-
 unfoldable pub byte3 : State → ℕ
 byte3 s = 0x80 + bit (not (started (s .sheet)) && not (s .sheet .waiting)) 0x40 + bit (s .blocked) 0x20
 

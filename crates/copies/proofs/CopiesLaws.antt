@@ -2,18 +2,19 @@
 use Prim.Native.Nat.{ℕ, zero, suc, _+_, _-_, _/_, _%_, _≤_, _<_}
 use mathlib.Core.Path.{_≡_, refl}
 use mathlib.Core.Bool.{Bool, true, not, _&&_}
-use mathlib.Core.List.{List, [], _∷_, map}
+use mathlib.Core.List.{List, [], _∷_, map, flatten}
 use native.Mathlib.Omega.{arith}
 use lib.ListN.{length, getD, drop, replicate, length-drop}
 use lib.Seq.{drop-cons}
 use lib.Dec.{eqb, leb}
 use borrow.Author.Tests.{eqb-true, eqb-false, leb-true, ltb-false, not-true, not-false}
-use Rattle.seq.specs.Words.{any, when, firstOr, joined, zeros}
+use Rattle.seq.specs.Words.{any, when, firstOr, zeros}
 use Rattle.seq.proofs.Laws.{and-left, and-right, or-right, passed}
 use Rattle.numbers.specs.declared.Cause.the-variants.{SequencePairs, SequenceCounts, NumberRecord}
 use Rattle.numbers.specs.declared.Checked.the-variants.{Sound, Faulty}
 use Rattle.numbers.proofs.Laws.{faulty}
-use Rattle.copies.specs.Copies.{Copies, tableCheck, pairsOf, copiesOf, badPair, sequenceCheck, markIn, numberCheck, copyNumber}
+use Rattle.copies.specs.declared.Copies.{Copies}
+use Rattle.copies.specs.Copies.{tableCheck, pairsOf, copiesOf, badPair, sequenceCheck, markIn, numberCheck, copyNumber}
 
 -- The pairs from place i on: the one there before those after it, and none where fewer than two bytes are left.
 module _ (r : List ℕ) (i : ℕ) where
@@ -74,12 +75,12 @@ number-last = refl
 
 -- Overlay sequences: odd, empty and nine pairs, judged before a zero count; a zero count, another mark, 256 copies; 255 copies in 8 pairs.
 pub sequence-table : map sequenceCheck
-    ((0 ∷ 0 ∷ 1 ∷ []) ∷ [] ∷ joined (replicate 9 (1 ∷ 0 ∷ []))
+    ((0 ∷ 0 ∷ 1 ∷ []) ∷ [] ∷ flatten (replicate 9 (1 ∷ 0 ∷ []))
     ∷ (1 ∷ 0 ∷ 0 ∷ 0 ∷ []) ∷ (1 ∷ 2 ∷ []) ∷ (255 ∷ 0 ∷ 1 ∷ 1 ∷ [])
-    ∷ (248 ∷ 0 ∷ joined (replicate 7 (1 ∷ 1 ∷ [])))
+    ∷ (248 ∷ 0 ∷ flatten (replicate 7 (1 ∷ 1 ∷ [])))
     ∷ [])
     ≡ Faulty SequencePairs ∷ Faulty SequencePairs ∷ Faulty SequencePairs ∷ Faulty SequenceCounts ∷ Faulty SequenceCounts ∷ Faulty SequenceCounts ∷ Sound ∷ []
-unfolding sequenceCheck pairsOf copiesOf joined firstOr when
+unfolding sequenceCheck pairsOf copiesOf flatten firstOr when
 sequence-table = refl
 
 -- The mark of each copy of two, one and three.

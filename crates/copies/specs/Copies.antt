@@ -6,10 +6,11 @@ use mathlib.Core.List.{List, [], _∷_, map}
 use lib.ListN.{length, getD, take}
 use lib.Dec.{eqb, leb, ltb}
 use Rattle.seq.specs.Words.{any, when, firstOr, every, total, padded, zeroFrom}
+use Rattle.numbers.specs.Sizes.{slotSize}
 use Rattle.numbers.specs.declared.Cause.the-variants.{TableShort, SequencePairs, SequenceCounts, NumberRecord}
 use Rattle.numbers.specs.declared.Checked.{Checked}
 use Rattle.numbers.specs.declared.Checked.the-variants.{Sound, Faulty}
-use Rattle.line.specs.Line.{slotSize}
+use Rattle.copies.specs.declared.Copies.{Copies}
 
 -- Load translate: a record of fewer than 256 bytes is too short.
 unfoldable pub tableCheck : List ℕ → Checked
@@ -51,11 +52,6 @@ numberCheck r = firstOr Sound (when (not (eqb (length r) 1 && not (eqb (getD r 0
 -- What the printer keeps of sequence and number: the record's bytes with 00 after them, their count, and the reference.
 abbrev pub pairSize : ℕ
 pairSize = 16
-
-pub record Copies : Type 0 where
-  pub pairs : List ℕ
-  pub count : ℕ
-  pub reference : ℕ
 
 abbrev pub sequenceNow : Copies → List ℕ
 sequenceNow c = take (c .count) (c .pairs)

@@ -11,6 +11,18 @@ ghost use Rattle.numbers.specs.Numbers.{isSound};
 ghost use Rattle.copies.specs.Copies.{tableCheck, pairsOf, copiesOf, badPair, sequenceCheck, markIn, numberCheck};
 ghost use Rattle.copies.specs.Copies.{pairSize, copiesInRange};
 
+// The overlay sequence as a printer has it, its bytes with 00 after them and how many they are; and the copy number of copy 1.
+pub struct Copies {
+    pub pairs: [u8; Copies::PAIR_BYTES],
+    pub count: u8,
+    pub reference: u8,
+}
+
+impl Copies {
+    // The longest overlay sequence: 8 pairs.
+    pub const PAIR_BYTES: usize = 16;
+}
+
 pub fn table_check(sent: &[u8]) -> Checked
     ensures { λ r. ⌜ r ≡ tableCheck (now (sent .entry)) ⌝ }
 {

@@ -14,7 +14,8 @@ use Rattle.seq.specs.Words.{any, bit}
 use Rattle.seq.proofs.Laws.{cond-has}
 use Rattle.form.specs.declared.Layout.{Layout}
 use Rattle.form.specs.declared.fcb.Pass.{Pass}
-use Rattle.form.specs.Form.{Forms, upper, channel, units, halfInch, runs, runsFrom, unitsTotal, between, linesWhere, printable, edges, badChannel, otherUpper, oddRun, layoutOf, layoutCheck, fcbCheck, fcbNow, hasChannel}
+use Rattle.form.specs.declared.Forms.{Forms}
+use Rattle.form.specs.Form.{upper, channel, units, halfInch, runs, runsFrom, unitsTotal, between, linesWhere, printable, edges, badChannel, otherUpper, oddRun, layoutOf, layoutCheck, fcbCheck, fcbNow, hasChannel}
 use Rattle.form.specs.Pass.{start, stepOf}
 use Rattle.form.proofs.FormLaws.{odd}
 

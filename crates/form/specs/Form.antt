@@ -9,6 +9,7 @@ use Rattle.numbers.specs.declared.Cause.the-variants.{FcbChannel, FcbSpacing, F
 use Rattle.numbers.specs.declared.Checked.{Checked}
 use Rattle.numbers.specs.declared.Checked.the-variants.{Sound, Faulty}
 use Rattle.form.specs.declared.Layout.{Layout}
+use Rattle.form.specs.declared.Forms.{Forms}
 
 -- The form lengths in 24ths of an inch, which are our units: common-use, then ISO.
 unfoldable pub formLengths : List ℕ
@@ -131,10 +132,6 @@ startFcb len = zeros 3 ++ 1 ∷ zeros (len / 4 - 4)
 -- Forms control as the printer keeps it: a record of at most 144 bytes, and 00 after it.
 abbrev pub fcbSize : ℕ
 fcbSize = 144
-
-pub record Forms : Type 0 where
-  pub fcb : List ℕ
-  pub count : ℕ
 
 unfoldable pub formsOf : List ℕ → Forms
 formsOf r = record { fcb = padded fcbSize r; count = length r }

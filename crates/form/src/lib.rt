@@ -12,6 +12,17 @@ pub struct Layout {
     pub lines: u16,
 }
 
+// Forms control as a printer has it: the FCB's bytes with 00 after them, and how many they are.
+pub struct Forms {
+    pub fcb: [u8; Forms::FCB_BYTES],
+    pub count: u8,
+}
+
+impl Forms {
+    // The longest FCB.
+    pub const FCB_BYTES: usize = 144;
+}
+
 // The FCB that a printer keeps: whether its count and the 00 after it are in range, and the form that it lays out.
 pub struct Kept {
     pub range: bool,

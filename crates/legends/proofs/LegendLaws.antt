@@ -2,20 +2,21 @@
 use Prim.Native.Nat.{ℕ, zero, suc, _-_, _≤_, _<_}
 use mathlib.Core.Path.{_≡_, refl, sym, ap, _∙_}
 use mathlib.Core.Bool.{Bool, true, false, cond, _||_}
-use mathlib.Core.List.{List, [], _∷_, _++_, map, append-assoc, append-nil}
+use mathlib.Core.List.{List, [], _∷_, _++_, map, append-assoc, append-nil, flatten}
 use native.Mathlib.Omega.{arith}
 use lib.ListN.{length, getD, take, drop, length-append, length-take, length-drop, List·getD-append}
 use lib.Seq.{take-at, drop-at, getD-take, length-take-le}
 use lib.Dec.{eqb, lit<}
 use borrow.Author.Tests.{ne-eqb, le-ltb}
-use Rattle.seq.specs.Words.{empty, joined, when, firstOr, every, zeros, padded}
+use Rattle.seq.specs.Words.{empty, when, firstOr, every, zeros, padded}
 use Rattle.seq.proofs.Laws.{passed, padded-zero, length-padded}
+use Rattle.numbers.specs.Sizes.{legendSize}
 use Rattle.numbers.specs.declared.Cause.the-variants.{SegmentEnds, SegmentFields}
 use Rattle.numbers.specs.declared.Checked.the-variants.{Sound, Faulty}
 use Rattle.numbers.specs.Numbers.{isSound}
 use Rattle.numbers.proofs.Laws.{faulty}
 use Rattle.legends.proofs.SegmentLaws.{judged, Whole, rest, tested, empty-or-sound, byte-set, cut-none, cut-more, cut-take, cut-end}
-use Rattle.legends.specs.Legends.{headSize, legendSize, segmentLength, badHead, segmentTests, cut, segments, legendCheck, retext, storedLegends, storedSegments, legendsOk, noLegends, Segment, covers, shown}
+use Rattle.legends.specs.Legends.{headSize, segmentLength, badHead, segmentTests, cut, segments, legendCheck, retext, storedLegends, storedSegments, legendsOk, noLegends, Segment, covers, shown}
 
 -- A segment with its text and nothing after it, and several.
 record Fit (s : List ℕ) : Type 0 where
@@ -30,8 +31,8 @@ data Fits : List (List ℕ) → Type 0 where
 cut-most : (x : List ℕ) → length (take (segmentLength x) x) ≤ segmentLength (take (segmentLength x) x)
 cut-most x = rw (getD-take (segmentLength x) x 5 0 (omega arith), length-take) (omega arith)
 
-cut-fits : (n : ℕ) (r : List ℕ) → firstOr Sound (joined (map segmentTests (cut (λ b. false) n r))) ≡ Sound → Fits (cut (λ b. false) n r)
-unfolding cut joined
+cut-fits : (n : ℕ) (r : List ℕ) → firstOr Sound (flatten (map segmentTests (cut (λ b. false) n r))) ≡ Sound → Fits (cut (λ b. false) n r)
+unfolding cut flatten
 cut-fits zero r e = end
 cut-fits (suc n) [] e = end
 cut-fits (suc n) (b ∷ bs) e =
@@ -55,63 +56,63 @@ cut-cons ends n s q h f =
     ∙ rw (size, take-at s q (length s) refl, drop-at s q (length s) refl)
 
 module _ (ends : ℕ → Bool) (h : Ends ends) (q : List ℕ) (z : (n : ℕ) → cut ends n q ≡ []) where
-  cut-joined : (n : ℕ) {ss : List (List ℕ)} → Fits ss → length ss ≤ n → cut ends n (joined ss ++ q) ≡ ss
-  unfolding joined
-  cut-joined n end l = z n
-  cut-joined zero (more f g) l = absurd (omega arith)
-  cut-joined (suc n) (more {s} {ss} f g) l =
-      ap (cut ends (suc n)) (append-assoc s (joined ss) q)
-      ∙ cut-cons ends n s (joined ss ++ q) h f
-      ∙ ap (λ (r : List (List ℕ)). s ∷ r) (cut-joined n g (omega arith))
+  cut-flatten : (n : ℕ) {ss : List (List ℕ)} → Fits ss → length ss ≤ n → cut ends n (flatten ss ++ q) ≡ ss
+  unfolding flatten
+  cut-flatten n end l = z n
+  cut-flatten zero (more f g) l = absurd (omega arith)
+  cut-flatten (suc n) (more {s} {ss} f g) l =
+      ap (cut ends (suc n)) (append-assoc s (flatten ss) q)
+      ∙ cut-cons ends n s (flatten ss ++ q) h f
+      ∙ ap (λ (r : List (List ℕ)). s ∷ r) (cut-flatten n g (omega arith))
 
-few-fits : {ss : List (List ℕ)} → Fits ss → length ss ≤ length (joined ss)
-unfolding joined
+few-fits : {ss : List (List ℕ)} → Fits ss → length ss ≤ length (flatten ss)
+unfolding flatten
 few-fits end = omega arith
-few-fits (more {s} {ss} f g) = rw (length-append s (joined ss)) (omega (arith, few-fits g, f .whole .size))
+few-fits (more {s} {ss} f g) = rw (length-append s (flatten ss)) (omega (arith, few-fits g, f .whole .size))
 
-segments-joined : {ss : List (List ℕ)} → Fits ss → segments (joined ss) ≡ ss
+segments-flatten : {ss : List (List ℕ)} → Fits ss → segments (flatten ss) ≡ ss
 unfolding segments
-segments-joined {ss} g =
-    ap (cut (λ b. false) (length (joined ss))) (sym (append-nil (joined ss)))
-    ∙ cut-joined (λ b. false) (λ b e. refl) [] (cut-none (λ b. false)) (length (joined ss)) g (few-fits g)
+segments-flatten {ss} g =
+    ap (cut (λ b. false) (length (flatten ss))) (sym (append-nil (flatten ss)))
+    ∙ cut-flatten (λ b. false) (λ b e. refl) [] (cut-none (λ b. false)) (length (flatten ss)) g (few-fits g)
 
 -- Such segments, if any, pass the load's check.
-fit-tests : (s : List ℕ) (ts : List (List ℕ)) → Fit s → firstOr Sound (joined (map segmentTests (s ∷ ts))) ≡ firstOr Sound (joined (map segmentTests ts))
-unfolding joined firstOr when
+fit-tests : (s : List ℕ) (ts : List (List ℕ)) → Fit s → firstOr Sound (flatten (map segmentTests (s ∷ ts))) ≡ firstOr Sound (flatten (map segmentTests ts))
+unfolding flatten firstOr when
 fit-tests s ts f =
     let w = f .whole in
     rw (le-ltb (length s) headSize (omega (arith, w .size)), w .head, le-ltb (length s) (segmentLength s) (w .size))
 
-fits-tests : {ss : List (List ℕ)} → Fits ss → firstOr Sound (joined (map segmentTests ss)) ≡ Sound
-unfolding joined firstOr
+fits-tests : {ss : List (List ℕ)} → Fits ss → firstOr Sound (flatten (map segmentTests ss)) ≡ Sound
+unfolding flatten firstOr
 fits-tests end = refl
 fits-tests (more {s} {ss} f g) = fit-tests s ss f ∙ fits-tests g
 
-some-or-sound : {ss : List (List ℕ)} → Fits ss → (empty (joined ss) || isSound (legendCheck (joined ss))) ≡ true
+some-or-sound : {ss : List (List ℕ)} → Fits ss → (empty (flatten ss) || isSound (legendCheck (flatten ss))) ≡ true
 unfolding isSound
 some-or-sound {ss} g =
-    let e : judged (joined ss) ≡ Sound = rw (segments-joined g) (fits-tests g) in
-    empty-or-sound (joined ss) ∙ ap isSound e
+    let e : judged (flatten ss) ≡ Sound = rw (segments-flatten g) (fits-tests g) in
+    empty-or-sound (flatten ss) ∙ ap isSound e
 
 zero-first : (n : ℕ) → getD (zeros n) 0 0 ≡ 0
 zero-first zero = refl
 zero-first (suc n) = refl
 
 -- Legends that hold such segments and 00 after them are legends that a printer can have.
-stored-fits : {ss : List (List ℕ)} → Fits ss → length (joined ss) ≤ 8192 → storedSegments (padded legendSize (joined ss)) ≡ ss
+stored-fits : {ss : List (List ℕ)} → Fits ss → length (flatten ss) ≤ 8192 → storedSegments (padded legendSize (flatten ss)) ≡ ss
 unfolding storedSegments padded
 stored-fits {ss} g l =
-    cut-joined (λ b. eqb b 0) (λ b h. ne-eqb b 0 (λ e. omega (arith, h, e))) (zeros (8192 - length (joined ss)))
-    (λ n. cut-end n (zeros (8192 - length (joined ss))) (zero-first (8192 - length (joined ss))))
-    (length (joined ss ++ zeros (8192 - length (joined ss)))) g
+    cut-flatten (λ b. eqb b 0) (λ b h. ne-eqb b 0 (λ e. omega (arith, h, e))) (zeros (8192 - length (flatten ss)))
+    (λ n. cut-end n (zeros (8192 - length (flatten ss))) (zero-first (8192 - length (flatten ss))))
+    (length (flatten ss ++ zeros (8192 - length (flatten ss)))) g
     (simp length-append (omega (arith, few-fits g)))
 
-padded-ok : {ss : List (List ℕ)} → Fits ss → length (joined ss) ≤ 8192 → legendsOk (padded legendSize (joined ss)) ≡ true
+padded-ok : {ss : List (List ℕ)} → Fits ss → length (flatten ss) ≤ 8192 → legendsOk (padded legendSize (flatten ss)) ≡ true
 unfolding legendsOk every
-padded-ok {ss} g l = rw (stored-fits g l, some-or-sound g, padded-zero 8192 (joined ss))
+padded-ok {ss} g l = rw (stored-fits g l, some-or-sound g, padded-zero 8192 (flatten ss))
 
 pub none-ok : legendsOk noLegends ≡ true
-unfolding noLegends padded joined
+unfolding noLegends padded flatten
 none-ok = padded-ok end (omega arith)
 
 -- The text of each segment put through f, which keeps its length.
@@ -143,23 +144,23 @@ module _ (f : List ℕ → List ℕ) (same : (x : List ℕ) → length (f x) ≡
   retext-fits end = end
   retext-fits (more {s} t g) = more (retext-fit s t) (retext-fits g)
 
-  joined-same : {ss : List (List ℕ)} → Fits ss → length (joined (map (retext f) ss)) ≡ length (joined ss)
-  unfolding joined
-  joined-same end = refl
-  joined-same (more {s} {ss} t g) =
-      length-append (retext f s) (joined (map (retext f) ss))
-      ∙ rw (retext-length s (omega (arith, t .whole .size)), joined-same g) (sym (length-append s (joined ss)))
+  flatten-same : {ss : List (List ℕ)} → Fits ss → length (flatten (map (retext f) ss)) ≡ length (flatten ss)
+  unfolding flatten
+  flatten-same end = refl
+  flatten-same (more {s} {ss} t g) =
+      length-append (retext f s) (flatten (map (retext f) ss))
+      ∙ rw (retext-length s (omega (arith, t .whole .size)), flatten-same g) (sym (length-append s (flatten ss)))
 
   module _ (r : List ℕ) (e : legendCheck r ≡ Sound) (h : length r ≤ 8192) where
-    stored-short : length (joined (map (retext f) (segments r))) ≤ 8192
+    stored-short : length (flatten (map (retext f) (segments r))) ≤ 8192
     unfolding segments
     stored-short =
         let k = cut-take (λ b. false) (length r) r in
-        omega (arith, h, joined-same (segments-fit r e), ap length (k .1), length-take (k .0) r)
+        omega (arith, h, flatten-same (segments-fit r e), ap length (k .1), length-take (k .0) r)
 
     pub stored-size : length (storedLegends f r) ≡ 8192
     unfolding storedLegends
-    stored-size = length-padded 8192 (joined (map (retext f) (segments r))) stored-short
+    stored-size = length-padded 8192 (flatten (map (retext f) (segments r))) stored-short
 
     pub stored-back : storedSegments (storedLegends f r) ≡ map (retext f) (segments r)
     unfolding storedLegends
@@ -176,7 +177,7 @@ pub legend-table : map legendCheck
     ∷ (1 ∷ 1 ∷ 1 ∷ 1 ∷ 1 ∷ 1 ∷ 0 ∷ 1 ∷ 1 ∷ 1 ∷ 1 ∷ 0 ∷ 1 ∷ 0 ∷ []) ∷ (0xFF ∷ 0xFF ∷ 0xFF ∷ 0xFF ∷ 1 ∷ 0xCC ∷ zeros 204)
     ∷ [])
     ≡ Faulty SegmentEnds ∷ Faulty SegmentEnds ∷ Faulty SegmentFields ∷ Faulty SegmentFields ∷ Faulty SegmentEnds ∷ Faulty SegmentFields ∷ Sound ∷ []
-unfolding legendCheck segments cut badHead joined firstOr when
+unfolding legendCheck segments cut badHead flatten firstOr when
 legend-table = refl
 
 -- The last segment that covers a cell shows there: a last one that covers it shows its text, one that does not leaves what the

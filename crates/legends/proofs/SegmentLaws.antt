@@ -3,14 +3,14 @@ use Prim.Native.Nat.{ℕ, zero, suc, _+_, _≤_, _<_}
 use mathlib.Core.Path.{_≡_, refl, sym, ap, _∙_}
 use mathlib.Core.Bool.{Bool, true, false, cond, not, _&&_, _||_}
 use mathlib.Core.Option.{Option}
-use mathlib.Core.List.{List, [], _∷_, _++_, map}
+use mathlib.Core.List.{List, [], _∷_, _++_, map, flatten}
 use native.Mathlib.Nat.{le-of-suc-le-suc, not-suc-le-zero}
 use native.Mathlib.Omega.{arith}
 use lib.ListN.{length, getD, take, drop, length-take, length-drop}
 use lib.Seq.{take-take, take-add, drop-drop, getD-take, length-take-le}
 use lib.Dec.{eqb, leb, ltb}
 use borrow.Author.Tests.{leb-true, ltb-true, ltb-false, eqb-false, eq-eqb, lt-ltb, le-ltb, not-false}
-use Rattle.seq.specs.Words.{any, empty, joined, when, firstOr}
+use Rattle.seq.specs.Words.{any, empty, when, firstOr}
 use Rattle.seq.proofs.Laws.{and-right, or-left, or-right, cond-has, passed}
 use Rattle.numbers.specs.declared.Cause.the-variants.{SegmentEnds, SegmentFields}
 use Rattle.numbers.specs.declared.Checked.{Checked}
@@ -24,7 +24,7 @@ abbrev pub found : List ℕ → Checked
 found s = firstOr Sound (segmentTests s)
 
 abbrev pub judged : List ℕ → Checked
-judged s = firstOr Sound (joined (map segmentTests (segments s)))
+judged s = firstOr Sound (flatten (map segmentTests (segments s)))
 
 abbrev pub rest : List ℕ → List ℕ
 rest s = drop (segmentLength s) s
@@ -104,14 +104,14 @@ module _ (ends : ℕ → Bool) where
   cut-more n [] h e = absurd (not-suc-le-zero h)
   cut-more n (b ∷ bs) h e = rw e refl
 
-  pub cut-take : (n : ℕ) (s : List ℕ) → (k : ℕ) × (joined (cut ends n s) ≡ take k s)
-  unfolding cut joined
+  pub cut-take : (n : ℕ) (s : List ℕ) → (k : ℕ) × (flatten (cut ends n s) ≡ take k s)
+  unfolding cut flatten
   cut-take zero s = (0, refl)
   cut-take (suc n) [] = (0, refl)
   cut-take (suc n) (b ∷ bs) =
       let m = segmentLength (b ∷ bs) in
       let h = cut-take n (rest (b ∷ bs)) in
-      cond-has (λ (ss : List (List ℕ)). (k : ℕ) × (joined ss ≡ take k (b ∷ bs))) (ends b) (λ t. (0, refl))
+      cond-has (λ (ss : List (List ℕ)). (k : ℕ) × (flatten ss ≡ take k (b ∷ bs))) (ends b) (λ t. (0, refl))
       (λ t. (m + h .0, ap (λ (r : List ℕ). take m (b ∷ bs) ++ r) (h .1) ∙ sym (take-add m (h .0) (b ∷ bs))))
 
   cut-enough : (n m : ℕ) (s : List ℕ) → length s ≤ n → length s ≤ m → cut ends n s ≡ cut ends m s
@@ -161,10 +161,10 @@ first-three false false true ts = refl
 first-three false false false ts = refl
 
 judged-next : (s : List ℕ) → 0 < length s → judged s ≡ cond (isSound (found s)) (judged (rest s)) (found s)
-unfolding joined
+unfolding flatten
 judged-next s h =
-    let ts = joined (map segmentTests (segments (rest s))) in
-    ap (λ (ss : List (List ℕ)). firstOr Sound (joined (map segmentTests ss))) (segments-next s h)
+    let ts = flatten (map segmentTests (segments (rest s))) in
+    ap (λ (ss : List (List ℕ)). firstOr Sound (flatten (map segmentTests ss))) (segments-next s h)
     ∙ ap (λ (us : List (Option Checked)). firstOr Sound (us ++ ts)) (tests-front s)
     ∙ first-three (ltb (length s) 6) (badHead s) (ltb (length s) (segmentLength s)) ts
 
@@ -175,7 +175,7 @@ pub judged-faulty : (s : List ℕ) → 0 < length s → isSound (found s) ≡ fa
 judged-faulty s h e = judged-next s h ∙ rw e
 
 pub judged-none : (s : List ℕ) → length s ≡ 0 → judged s ≡ Sound
-unfolding segments cut joined firstOr
+unfolding segments cut flatten firstOr
 judged-none [] l = refl
 judged-none (b ∷ bs) l = absurd (omega arith)
 
@@ -191,6 +191,6 @@ check-some [] h = absurd (omega arith)
 check-some (b ∷ bs) h = refl
 
 pub empty-or-sound : (r : List ℕ) → (empty r || isSound (legendCheck r)) ≡ isSound (judged r)
-unfolding legendCheck segments cut joined firstOr when isSound
+unfolding legendCheck segments cut flatten firstOr when isSound
 empty-or-sound [] = refl
 empty-or-sound (b ∷ bs) = refl

@@ -2,13 +2,13 @@
 use Prim.Native.Nat.{ℕ, _+_, _-_, _≤_, _<_}
 use mathlib.Core.Path.{_≡_, refl, sym, ap, _∙_}
 use mathlib.Core.Bool.{Bool, true, false, _&&_, _||_, false≢true, and-true, or-false, or-assoc}
-use mathlib.Core.List.{List, [], _∷_, _++_, map, append-assoc, append-nil}
+use mathlib.Core.List.{List, [], _∷_, _++_, map, append-assoc, append-nil, flatten}
 use native.Mathlib.Omega.{arith}
 use lib.ListN.{length, getD, take, drop, length-append, length-take, length-drop, drop-of-length-le}
 use lib.Seq.{take-take, take-add, take-at, drop-at, drop-drop, getD-take, length-take-le}
 use lib.Dec.{eqb, lit<}
 use borrow.Author.Tests.{eqb-true, ne-eqb}
-use Rattle.seq.specs.Words.{all, joined, firstOr, every, zeros, padded, zeroFrom}
+use Rattle.seq.specs.Words.{all, firstOr, every, zeros, padded, zeroFrom}
 use Rattle.seq.proofs.Laws.{and-left, passed}
 use Rattle.numbers.specs.declared.Checked.the-variants.{Sound}
 use Rattle.numbers.specs.Numbers.{isSound}
@@ -33,23 +33,23 @@ found-same r s e =
 
 -- Legends that do not begin with 00: their first segment, then the others.
 module _ (s : List ℕ) (some : 0 < length s) (set : eqb (getD s 0 0) 0 ≡ false) where
-  joined-next : joined (storedSegments s) ≡ take (segmentLength s) s ++ joined (storedSegments (rest s))
-  unfolding joined
-  joined-next = ap joined (stored-next s some set)
+  flatten-next : flatten (storedSegments s) ≡ take (segmentLength s) s ++ flatten (storedSegments (rest s))
+  unfolding flatten
+  flatten-next = ap flatten (stored-next s some set)
 
-  stored-front : take (segmentLength s) (joined (storedSegments s)) ≡ take (segmentLength s) s
+  stored-front : take (segmentLength s) (flatten (storedSegments s)) ≡ take (segmentLength s) s
   unfolding storedSegments
   stored-front =
       let m = segmentLength s in
       let q = cut-take (λ b. eqb b 0) (length (rest s)) (rest s) in
-      ap (take m) (joined-next ∙ ap (λ (r : List ℕ). take m s ++ r) (q .1) ∙ sym (take-add m (q .0) s)) ∙ take-take m (m + q .0) s (omega arith)
+      ap (take m) (flatten-next ∙ ap (λ (r : List ℕ). take m s ++ r) (q .1) ∙ sym (take-add m (q .0) s)) ∙ take-take m (m + q .0) s (omega arith)
 
-  stored-same : (segmentLength (joined (storedSegments s)) ≡ segmentLength s) × (found (joined (storedSegments s)) ≡ found s)
-  stored-same = found-same (joined (storedSegments s)) s stored-front
+  stored-same : (segmentLength (flatten (storedSegments s)) ≡ segmentLength s) × (found (flatten (storedSegments s)) ≡ found s)
+  stored-same = found-same (flatten (storedSegments s)) s stored-front
 
-ok-is : (s : List ℕ) → legendsOk s ≡ (isSound (judged (joined (storedSegments s))) && zeroFrom (length (joined (storedSegments s))) s)
+ok-is : (s : List ℕ) → legendsOk s ≡ (isSound (judged (flatten (storedSegments s))) && zeroFrom (length (flatten (storedSegments s))) s)
 unfolding legendsOk every
-ok-is s = rw (empty-or-sound (joined (storedSegments s)), and-true)
+ok-is s = rw (empty-or-sound (flatten (storedSegments s)), and-true)
 
 pub first-set : (s : List ℕ) → Whole s → eqb (getD s 0 0) 0 ≡ false
 first-set s w = ne-eqb (getD s 0 0) 0 (λ e. omega (arith, e, byte-set s w 0 (lit< tt)))
@@ -58,11 +58,11 @@ pub ok-sound : (s : List ℕ) → isSound (found s) ≡ true → legendsOk s ≡
 ok-sound s e =
     let m = segmentLength s in
     let w = whole s e in
-    let r = joined (storedSegments s) in
-    let q = joined (storedSegments (rest s)) in
+    let r = flatten (storedSegments s) in
+    let q = flatten (storedSegments (rest s)) in
     let some : 0 < length s = omega (arith, w .size) in
     let set = first-set s w in
-    let next = joined-next s some set in
+    let next = flatten-next s some set in
     let same = stored-same s some set in
     let front : length (take m s) ≡ m = length-take-le m s (w .size) in
     let back : rest r ≡ q = ap (λ (k : ℕ). drop k r) (same .0) ∙ ap (drop m) next ∙ drop-at (take m s) q m front in
@@ -72,22 +72,22 @@ ok-sound s e =
 
 ok-faulty : (s : List ℕ) → 0 < length s → eqb (getD s 0 0) 0 ≡ false → isSound (found s) ≡ false → legendsOk s ≡ false
 ok-faulty s some set e =
-    let r = joined (storedSegments s) in
+    let r = flatten (storedSegments s) in
     let same = stored-same s some set .1 in
-    let size = ap length (joined-next s some set) ∙ length-append (take (segmentLength s) s) (joined (storedSegments (rest s))) in
+    let size = ap length (flatten-next s some set) ∙ length-append (take (segmentLength s) s) (flatten (storedSegments (rest s))) in
     let h : 0 < length r = omega (arith, size, length-take (segmentLength s) s, some) in
     ok-is s ∙ rw (ap isSound (judged-faulty r h (ap isSound same ∙ e) ∙ same) ∙ e)
 
 -- Where no sound segment stands, legends are over: all that is left is 00.
 pub ok-end : (s : List ℕ) → isSound (found s) ≡ false → legendsOk s ≡ all (λ b. eqb b 0) s
-unfolding legendsOk storedSegments segments cut joined firstOr isSound every
+unfolding legendsOk storedSegments segments cut flatten firstOr isSound every
 ok-end [] e = refl
 ok-end (b ∷ bs) e = go (eqb b 0) refl
   where
     go : (t : Bool) → eqb b 0 ≡ t → legendsOk (b ∷ bs) ≡ all (λ x. eqb x 0) (b ∷ bs)
     go true t =
         ok-is (b ∷ bs)
-        ∙ ap (λ (ss : List (List ℕ)). isSound (judged (joined ss)) && zeroFrom (length (joined ss)) (b ∷ bs))
+        ∙ ap (λ (ss : List (List ℕ)). isSound (judged (flatten ss)) && zeroFrom (length (flatten ss)) (b ∷ bs))
         (cut-end (length (b ∷ bs)) (b ∷ bs) (eqb-true b 0 t))
     go false t = ok-faulty (b ∷ bs) (omega arith) t e ∙ rw t
 
@@ -107,7 +107,7 @@ unfolding isSound
 front-sound s h e = holds _ (λ t. false≢true (sym t ∙ ap isSound (sym (judged-faulty s h t) ∙ e)))
 
 abbrev stored : (List ℕ → List ℕ) → List ℕ → List ℕ
-stored f s = joined (map (retext f) (segments s))
+stored f s = flatten (map (retext f) (segments s))
 
 any-text : (ps t r q : List ℕ) → anyUnprintable ps t (r ++ q) ≡ (anyUnprintable ps t r || anyUnprintable ps t q)
 unfolding anyUnprintable
@@ -156,7 +156,7 @@ module _ (ps t sent : List ℕ) where
       segments-at = segments-next left some ∙ λ i. take (sym e i) left ∷ segments (rest-at sent at m e i)
 
       step : Storing (take at out ++ (cells-of ++ drop m (drop at out))) (bad || anyUnprintable ps t (drop headSize first)) (at + m)
-      unfolding joined legendText
+      unfolding flatten legendText
       step =
           let next = rest-at sent at m e in
           let end = end-at sent at m e storing-whole in
@@ -174,13 +174,13 @@ module _ (ps t sent : List ℕ) where
                 ap (λ (l : List ℕ). take (at + m) l ++ stored f (drop (at + m) sent)) (sym (append-assoc (take at out) cells-of q))
                 ∙ ap (λ (l : List ℕ). l ++ stored f (drop (at + m) sent)) (take-at (take at out ++ cells-of) q (at + m) done)
                 ∙ append-assoc (take at out) cells-of (stored f (drop (at + m) sent))
-                ∙ ap (λ (ss : List (List ℕ)). take at out ++ joined (map (retext f) ss)) (sym segments-at)
+                ∙ ap (λ (ss : List (List ℕ)). take at out ++ flatten (map (retext f) ss)) (sym segments-at)
                 ∙ so-far .cells;
             text =
                 or-assoc bad _ _
                 ∙ ap (λ (b : Bool). bad || b)
                 (sym (any-text ps t (drop headSize first) (legendText (drop (at + m) sent)))
-                ∙ ap (λ (ss : List (List ℕ)). anyUnprintable ps t (joined (map (drop headSize) ss))) (sym segments-at))
+                ∙ ap (λ (ss : List (List ℕ)). anyUnprintable ps t (flatten (map (drop headSize) ss))) (sym segments-at))
                 ∙ so-far .text;
           }
 
@@ -190,7 +190,7 @@ module _ (ps t sent : List ℕ) where
 
   pub storing-end : (out : List ℕ) (bad : Bool) (at : ℕ) → length sent ≤ 8192 → length sent ≤ at → Storing out bad at
       → (take (length sent) out ++ zeros (8192 - length sent) ≡ storedLegends (translated ps t) sent) × (bad ≡ anyUnprintable ps t (legendText sent))
-  unfolding storedLegends padded legendText anyUnprintable segments cut joined
+  unfolding storedLegends padded legendText anyUnprintable segments cut flatten
   storing-end out bad at room over so-far =
       let n = length sent in
       let f = translated ps t in

@@ -1,20 +1,16 @@
--- Document 01, "Copies and legends": copy modification, stored legends, and the composed copy. Every definition here is of that section,
--- but for the store's size, which is of "Calls".
+-- Document 01, "Copies and legends": copy modification, stored legends, and the composed copy. Every definition here is of that section.
 use Prim.Native.Nat.{ℕ, zero, suc, _+_, _*_, _-_, _/_, _%_}
 use mathlib.Core.Bool.{Bool, false, cond, not, _&&_, _||_}
 use mathlib.Core.Option.{Option}
-use mathlib.Core.List.{List, [], _∷_, _++_, map}
+use mathlib.Core.List.{List, [], _∷_, _++_, map, flatten}
 use lib.ListN.{length, getD, take, drop}
 use lib.Dec.{eqb, leb, ltb}
-use Rattle.seq.specs.Words.{any, empty, joined, when, firstOr, every, zeros, padded, zeroFrom}
+use Rattle.seq.specs.Words.{any, empty, when, firstOr, every, zeros, padded, zeroFrom}
 use Rattle.numbers.specs.declared.Cause.the-variants.{SegmentEnds, SegmentFields}
 use Rattle.numbers.specs.declared.Checked.{Checked}
 use Rattle.numbers.specs.declared.Checked.the-variants.{Sound, Faulty}
 use Rattle.numbers.specs.Numbers.{isSound}
-use Rattle.line.specs.Line.{lineWidth, lineBytes}
-
-abbrev pub legendSize : ℕ
-legendSize = 8192
+use Rattle.numbers.specs.Sizes.{lineWidth, lineBytes, legendSize}
 
 -- A segment, in the order of its six bytes, then its text, which has as many bytes as the segment has positions.
 pub record Segment : Type 0 where
@@ -73,7 +69,7 @@ segments r = cut (λ b. false) (length r) r
 
 -- Load copy modification: the first fault, taking segments in record order; an empty record counts as an end inside one.
 unfoldable pub legendCheck : List ℕ → Checked
-legendCheck r = firstOr Sound (when (empty r) (Faulty SegmentEnds) ∷ joined (map segmentTests (segments r)))
+legendCheck r = firstOr Sound (when (empty r) (Faulty SegmentEnds) ∷ flatten (map segmentTests (segments r)))
 
 -- What an accepted load stores: each segment with its text translated, here by f (house), and 00 after the last. A load leaves nothing of
 -- the legends before it.
@@ -81,11 +77,11 @@ abbrev pub retext : (List ℕ → List ℕ) → List ℕ → List ℕ
 retext f s = take headSize s ++ f (drop headSize s)
 
 unfoldable pub storedLegends : (List ℕ → List ℕ) → List ℕ → List ℕ
-storedLegends f r = padded legendSize (joined (map (retext f) (segments r)))
+storedLegends f r = padded legendSize (flatten (map (retext f) (segments r)))
 
 -- All text of a record, for its data checks.
 unfoldable pub legendText : List ℕ → List ℕ
-legendText r = joined (map (drop headSize) (segments r))
+legendText r = flatten (map (drop headSize) (segments r))
 
 -- Stored legends: their segments end before a first byte of 00, or at the end of the store.
 unfoldable pub storedSegments : List ℕ → List (List ℕ)
@@ -94,7 +90,7 @@ storedSegments l = cut (λ b. eqb b 0) (length l) l
 -- Legends that a printer can have: none, or such as their load would take; and 00 after them.
 unfoldable pub legendsOk : List ℕ → Bool
 legendsOk l =
-    let r = joined (storedSegments l) in
+    let r = flatten (storedSegments l) in
     every ((empty r || isSound (legendCheck r)) ∷ zeroFrom (length r) l ∷ [])
 
 unfoldable pub noLegends : List ℕ

@@ -5,7 +5,7 @@ ghost use mathlib.Core.Bool.{true, false};
 ghost use mathlib.Core.List.{[], _∷_, _++_, map};
 ghost use Prim.Native.Nat.{_+_, _*_, _-_, _≤_};
 ghost use lib.ListN.{length, getD, drop};
-ghost use Rattle.line.specs.Line.{lineBytes};
+ghost use Rattle.numbers.specs.Sizes.{lineBytes};
 ghost use Rattle.legends.specs.Legends.{segmentOf, segmentLength, badHead, storedSegments, legendsOk, copyFrom, composed};
 
 // From one slice to another by the front of a block.

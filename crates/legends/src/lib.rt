@@ -5,10 +5,10 @@ use numbers::Cause;
 use numbers::Checked;
 ghost use mathlib.Core.Path.{_≡_};
 ghost use mathlib.Core.Bool.{false};
-ghost use mathlib.Core.List.{map};
+ghost use mathlib.Core.List.{map, flatten};
 ghost use Prim.Native.Nat.{_+_, _≤_};
 ghost use lib.ListN.{length, drop};
-ghost use Rattle.seq.specs.Words.{firstOr, joined};
+ghost use Rattle.seq.specs.Words.{firstOr};
 ghost use Rattle.numbers.specs.Numbers.{isSound};
 ghost use Rattle.numbers.specs.declared.Checked.the-variants.{Sound};
 ghost use Rattle.line.specs.Line.{translated, anyUnprintable};
@@ -54,8 +54,8 @@ fn segment_check(s: &[u8]) -> Checked
 fn sound_end(s: &[u8]) -> usize
     ensures bound { λ r. ⌜ r ≤ length (now (s .entry)) ⌝ }
     ensures stops { λ r. ⌜ isSound (firstOr Sound (segmentTests (drop r (now (s .entry))))) ≡ false ⌝ }
-    ensures checked { λ r. ⌜ firstOr Sound (joined (map segmentTests (segments (now (s .entry)))))
-        ≡ firstOr Sound (joined (map segmentTests (segments (drop r (now (s .entry)))))) ⌝ }
+    ensures checked { λ r. ⌜ firstOr Sound (flatten (map segmentTests (segments (now (s .entry)))))
+        ≡ firstOr Sound (flatten (map segmentTests (segments (drop r (now (s .entry)))))) ⌝ }
     ensures stored { λ r. ⌜ legendsOk (now (s .entry)) ≡ legendsOk (drop r (now (s .entry))) ⌝ }
 {
     let n = s.len();

@@ -16,7 +16,9 @@ use Rattle.numbers.specs.declared.Checked.{Checked}
 use Rattle.numbers.specs.declared.Checked.the-variants.{Sound, Faulty}
 use Rattle.numbers.specs.declared.Refusal.{Refusal}
 use Rattle.numbers.specs.declared.Refusal.the-variants.{Accepted, NotListed, BadRecord, LoadCheck, PageWaiting, PageStarted, NoPage, BadIndex, TooShort, BadStore, BadForm, TwoPages}
-use Rattle.numbers.specs.Numbers.{SenseStep, keep, anew, causeOf, rowOf, numberOf, isAccepted, checked, isSound}
+use Rattle.numbers.specs.declared.SenseStep.{SenseStep}
+use Rattle.numbers.specs.declared.SenseStep.the-variants.{Keep, Anew, NoSense}
+use Rattle.numbers.specs.Numbers.{causeOf, rowOf, numberOf, isAccepted, checked, isSound}
 
 -- Numbers 0 to 11 and causes 1 to 10, in the order in which they are declared.
 pub every-number : map numberOf
@@ -41,21 +43,50 @@ unfolding isSound
 sound-is Sound e = refl
 sound-is (Faulty c) e = absurd (false≢true e)
 
--- number 0 is that of Accepted alone
+-- Refusals 1, 3 and 5 set the sense anew, and the others do not; unit check, 0E, is shown exactly where there is something to tell.
+abbrev pub isAnew : SenseStep → Bool
+isAnew Keep = false
+isAnew (Anew s) = true
+isAnew NoSense = false
+
+abbrev pub tells : Refusal → Bool
+tells x = listed (1 ∷ 3 ∷ 5 ∷ []) (numberOf x)
+
+-- What is known of every row, for any two byte counts: one list of the refusals is enough for all of it.
+pub record Facts (n m : ℕ) (x : Refusal) : Type 0 where
+  -- number 0 is that of Accepted alone
+  pub zero : isAccepted x ≡ true → x ≡ Accepted
+  pub anew : isAnew (rowOf n x .sense) ≡ tells x
+  pub check : eqb (rowOf n x .status) 0x0E ≡ tells x
+  -- the number is the same for all records, and so is the row, but for a load check, whose sense can show the record's byte count
+  pub same : ((c : Cause) → x ≡ LoadCheck c → n ≡ m) → rowOf n x ≡ rowOf m x
+
+facts : (n m : ℕ) (x : Refusal) → Facts n m x
+unfolding rowOf isAccepted
+facts n m Accepted = record { zero = λ e. refl; anew = refl; check = refl; same = λ h. refl }
+facts n m NotListed = record { zero = λ e. absurd (false≢true e); anew = refl; check = refl; same = λ h. refl }
+facts n m BadRecord = record { zero = λ e. absurd (false≢true e); anew = refl; check = refl; same = λ h. refl }
+facts n m (LoadCheck c) = record { zero = λ e. absurd (false≢true e); anew = refl; check = refl; same = λ h. rw (h c refl) }
+facts n m PageWaiting = record { zero = λ e. absurd (false≢true e); anew = refl; check = refl; same = λ h. refl }
+facts n m PageStarted = record { zero = λ e. absurd (false≢true e); anew = refl; check = refl; same = λ h. refl }
+facts n m NoPage = record { zero = λ e. absurd (false≢true e); anew = refl; check = refl; same = λ h. refl }
+facts n m BadIndex = record { zero = λ e. absurd (false≢true e); anew = refl; check = refl; same = λ h. refl }
+facts n m TooShort = record { zero = λ e. absurd (false≢true e); anew = refl; check = refl; same = λ h. refl }
+facts n m BadStore = record { zero = λ e. absurd (false≢true e); anew = refl; check = refl; same = λ h. refl }
+facts n m BadForm = record { zero = λ e. absurd (false≢true e); anew = refl; check = refl; same = λ h. refl }
+facts n m TwoPages = record { zero = λ e. absurd (false≢true e); anew = refl; check = refl; same = λ h. refl }
+
 pub accepted-is : (x : Refusal) → isAccepted x ≡ true → x ≡ Accepted
-unfolding isAccepted rowOf
-accepted-is Accepted e = refl
-accepted-is NotListed e = absurd (false≢true e)
-accepted-is BadRecord e = absurd (false≢true e)
-accepted-is (LoadCheck c) e = absurd (false≢true e)
-accepted-is PageWaiting e = absurd (false≢true e)
-accepted-is PageStarted e = absurd (false≢true e)
-accepted-is NoPage e = absurd (false≢true e)
-accepted-is BadIndex e = absurd (false≢true e)
-accepted-is TooShort e = absurd (false≢true e)
-accepted-is BadStore e = absurd (false≢true e)
-accepted-is BadForm e = absurd (false≢true e)
-accepted-is TwoPages e = absurd (false≢true e)
+accepted-is x = facts 0 0 x .zero
+
+pub row-same : (n m : ℕ) (x : Refusal) → ((c : Cause) → x ≡ LoadCheck c → n ≡ m) → rowOf n x ≡ rowOf m x
+row-same n m x = facts n m x .same
+
+pub anew-exactly : (n : ℕ) (x : Refusal) → isAnew (rowOf n x .sense) ≡ tells x
+anew-exactly n x = facts n n x .anew
+
+pub check-exactly : (n : ℕ) (x : Refusal) → eqb (rowOf n x .status) 0x0E ≡ tells x
+check-exactly n x = facts n n x .check
 
 pub not-accepted : {x : Refusal} → isAccepted x ≡ false → x ≡ Accepted → ⊥
 unfolding isAccepted rowOf
@@ -83,55 +114,6 @@ check-hit e = rw e here
 pub check-pass : {d : Checked} {x : Refusal} {ts : List (Option Refusal)} → d ≡ Sound → First Accepted ts x → First Accepted (checked d ∷ ts) x
 unfolding checked
 check-pass e f = rw e (later f)
-
--- Refusals 1, 3 and 5 set the sense anew, and the others keep it; unit check, 0E, is shown exactly where there is something to tell.
-abbrev pub isAnew : SenseStep → Bool
-isAnew keep = false
-isAnew (anew s) = true
-
-abbrev pub tells : Refusal → Bool
-tells x = listed (1 ∷ 3 ∷ 5 ∷ []) (numberOf x)
-
-abbrev Told : ℕ → Refusal → Type 0
-Told n x = (isAnew (rowOf n x .sense) ≡ tells x) × (eqb (rowOf n x .status) 0x0E ≡ tells x)
-
-pub told : (n : ℕ) (x : Refusal) → Told n x
-unfolding rowOf
-told n Accepted = (refl, refl)
-told n NotListed = (refl, refl)
-told n BadRecord = (refl, refl)
-told n (LoadCheck c) = (refl, refl)
-told n PageWaiting = (refl, refl)
-told n PageStarted = (refl, refl)
-told n NoPage = (refl, refl)
-told n BadIndex = (refl, refl)
-told n TooShort = (refl, refl)
-told n BadStore = (refl, refl)
-told n BadForm = (refl, refl)
-told n TwoPages = (refl, refl)
-
--- A row is the same for all records, but for a load check, whose sense can show the record's byte count.
-pub row-same : (n m : ℕ) (x : Refusal) → ((c : Cause) → x ≡ LoadCheck c → n ≡ m) → rowOf n x ≡ rowOf m x
-unfolding rowOf
-row-same n m Accepted h = refl
-row-same n m NotListed h = refl
-row-same n m BadRecord h = refl
-row-same n m (LoadCheck c) h = rw (h c refl)
-row-same n m PageWaiting h = refl
-row-same n m PageStarted h = refl
-row-same n m NoPage h = refl
-row-same n m BadIndex h = refl
-row-same n m TooShort h = refl
-row-same n m BadStore h = refl
-row-same n m BadForm h = refl
-row-same n m TwoPages h = refl
-
-kept : (t : SenseStep) → isAnew t ≡ false → t ≡ keep
-kept keep e = refl
-kept (anew s) e = absurd (true≢false e)
-
-pub sense-kept : (n : ℕ) (x : Refusal) → tells x ≡ false → rowOf n x .sense ≡ keep
-sense-kept n x e = kept _ (told n x .0 ∙ e)
 
 -- an order gives no number that none of its refusals has
 pub number-not : (n : ℕ) (b : Bool) (x : Refusal) (ts : List (Option Refusal)) → (b ≡ false) ⊎ (eqb (numberOf x) n ≡ false)

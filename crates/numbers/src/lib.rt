@@ -1,7 +1,25 @@
-// Document 01, "Numbers": the refusals and their causes, the answer and the sense; and the table's values for each.
+// Document 01, "Numbers": the refusals and their causes, the answer and the sense; and the table's row for each refusal.
 ghost use mathlib.Core.Path.{_≡_};
-ghost use Prim.Native.Nat.{ℕ};
-ghost use Rattle.numbers.specs.Numbers.{causeOf, rowOf, numberOf, isAccepted, senseAfter, isSound};
+ghost use Rattle.numbers.specs.Numbers.{sense3, senseAfter, rowWith, rowTelling, checkRow, causing, sumCaused, causeOf, rowOf, isAccepted, only, isSound};
+
+// The lent stores. Their bytes are the host's; their sizes, and a line's, stand here.
+pub struct Stores {}
+
+impl Stores {
+    // A line has 204 cells, each a byte.
+    pub const LINE_CELLS: usize = 204;
+
+    pub const LINE_BYTES: usize = Stores::LINE_CELLS;
+
+    pub const PAGE_BYTES: usize = 132 * Stores::LINE_BYTES;
+
+    // A load record has at most as many bytes as the legends.
+    pub const LEGEND_BYTES: usize = 8192;
+
+    pub const SLOT_BYTES: usize = 256;
+
+    pub const TABLE_BYTES: usize = 4 * Stores::SLOT_BYTES;
+}
 
 // The rows of the paper's table of numbers. Accepted, its row 0, is no refusal.
 pub enum Refusal {
@@ -48,6 +66,27 @@ pub struct Answer {
     pub mark: u8,
 }
 
+// The table's last column: the sense is kept or set anew; or there is none, as a refused Start leaves no printer.
+pub enum SenseStep {
+    Keep,
+    Anew(Sense),
+    NoSense,
+}
+
+// A row of the table, with the number by which a packed answer names the cause of a load check, 0 of every other.
+pub struct Row {
+    pub number: u8,
+    pub status: u8,
+    pub sense: SenseStep,
+    pub cause: u8,
+}
+
+// What a load check shows of its cause: the number by which a packed answer names it, and its sense.
+pub struct Caused {
+    pub number: u8,
+    pub sense: Sense,
+}
+
 // The sense bytes that a printer keeps. Byte 3 is computed when Sense asks, and all others are 00.
 pub struct Sense {
     pub b0: u8,
@@ -69,6 +108,9 @@ impl Checked {
 }
 
 impl Sense {
+    // How many bytes Sense replies.
+    pub const REPLY_BYTES: usize = 24;
+
     pub const CLEAR: Sense = Sense {
         b0: 0,
         b1: 0,
@@ -76,11 +118,22 @@ impl Sense {
         b22: 0,
         b23: 0,
     };
+
+    // What a row makes of it.
+    pub fn after(self, step: SenseStep) -> Sense
+        ensures { λ r. ⌜ r ≡ senseAfter self step ⌝ }
+    {
+        match step {
+            SenseStep::Keep => self,
+            SenseStep::Anew(sense) => sense,
+            SenseStep::NoSense => sense3(0, 0, 0),
+        }
+    }
 }
 
 // Sense bytes 0, 1 and 2, the others 00.
 pub fn sense3(b0: u8, b1: u8, b2: u8) -> Sense
-    ensures { λ r. ⌜ r ≡ record { b0 = b0; b1 = b1; b2 = b2; b22 = 0; b23 = 0 } ⌝ }
+    ensures { λ r. ⌜ r ≡ sense3 b0 b1 b2 ⌝ }
 {
     Sense {
         b0: b0,
@@ -92,124 +145,141 @@ pub fn sense3(b0: u8, b1: u8, b2: u8) -> Sense
 }
 
 impl Answer {
-    // Accepted by Start or Release, which give status 00 and nothing more.
-    pub const DONE: Answer = Answer {
-        refusal: Refusal::Accepted,
-        status: 0,
-        ready: false,
-        lines: 0,
-        copy: 0,
-        mark: 0,
-    };
+    // No page ready, no lines moved, no copy.
+    pub fn only(refusal: Refusal, status: u8) -> Answer
+        ensures { λ r. ⌜ r ≡ only refusal status ⌝ }
+    {
+        Answer {
+            refusal: refusal,
+            status: status,
+            ready: false,
+            lines: 0,
+            copy: 0,
+            mark: 0,
+        }
+    }
+}
+
+// A row that names no cause.
+fn row_with(number: u8, status: u8, sense: SenseStep) -> Row
+    ensures { λ r. ⌜ r ≡ rowWith number status sense ⌝ }
+{
+    Row {
+        number: number,
+        status: status,
+        sense: sense,
+        cause: 0,
+    }
+}
+
+// A row with something to tell: unit check, and sense bytes 0 and 1.
+fn row_telling(number: u8, b0: u8, b1: u8) -> Row
+    ensures { λ r. ⌜ r ≡ rowTelling number b0 b1 ⌝ }
+{
+    Row {
+        number: number,
+        status: 0x0E,
+        sense: SenseStep::Anew(Sense {
+            b0: b0,
+            b1: b1,
+            b2: 0,
+            b22: 0,
+            b23: 0,
+        }),
+        cause: 0,
+    }
+}
+
+// The row of a load check.
+fn check_row(caused: Caused) -> Row
+    ensures { λ r. ⌜ r ≡ checkRow caused ⌝ }
+{
+    let sense = caused.sense;
+    Row {
+        number: 3,
+        status: 0x0E,
+        sense: SenseStep::Anew(sense),
+        cause: caused.number,
+    }
+}
+
+// A load check's sense is 02 and its cause.
+fn causing(number: u8, b1: u8, b2: u8) -> Caused
+    ensures { λ r. ⌜ r ≡ causing number b1 b2 ⌝ }
+{
+    Caused {
+        number: number,
+        sense: Sense {
+            b0: 0x02,
+            b1: b1,
+            b2: b2,
+            b22: 0,
+            b23: 0,
+        },
+    }
+}
+
+// The sum of an FCB shows the record's byte count.
+fn sum_caused(count: u16) -> Caused
+    ensures { λ r. ⌜ r ≡ sumCaused count ⌝ }
+{
+    Caused {
+        number: 3,
+        sense: Sense {
+            b0: 0x02,
+            b1: 0x08,
+            b2: 0,
+            b22: (count / 256) as u8,
+            b23: (count % 256) as u8,
+        },
+    }
 }
 
 impl Cause {
-    // The number by which a packed answer names it.
-    pub fn number(self) -> u8
-        ensures { λ r. ⌜ r ≡ causeOf 0 self .number ⌝ }
+    // What it shows; `count` is the record's byte count.
+    fn shows(self, count: u16) -> Caused
+        ensures { λ r. ⌜ r ≡ causeOf count self ⌝ }
     {
         match self {
-            Cause::FcbChannel => 1,
-            Cause::FcbSpacing => 2,
-            Cause::FcbSum => 3,
-            Cause::FcbEdge => 4,
-            Cause::TableShort => 5,
-            Cause::SequencePairs => 6,
-            Cause::SequenceCounts => 7,
-            Cause::NumberRecord => 8,
-            Cause::SegmentEnds => 9,
-            Cause::SegmentFields => 10,
-        }
-    }
-
-    // Its sense; `count` is the record's byte count.
-    fn sense(self, count: u16) -> Sense
-        ensures { λ r. ⌜ r ≡ causeOf count self .sense ⌝ }
-    {
-        match self {
-            Cause::FcbChannel => sense3(0x02, 0x10, 0),
-            Cause::FcbSpacing => sense3(0x02, 0x40, 0),
-            Cause::FcbSum => Sense {
-                b0: 0x02,
-                b1: 0x08,
-                b2: 0,
-                b22: (count / 256) as u8,
-                b23: (count % 256) as u8,
-            },
-            Cause::FcbEdge => sense3(0x02, 0x20, 0),
-            Cause::TableShort => sense3(0x02, 0x80, 0),
-            Cause::SequencePairs => sense3(0x02, 0x80, 0),
-            Cause::SequenceCounts => sense3(0x02, 0, 0x10),
-            Cause::NumberRecord => sense3(0x02, 0x80, 0),
-            Cause::SegmentEnds => sense3(0x02, 0x80, 0),
-            Cause::SegmentFields => sense3(0x02, 0, 0x20),
+            Cause::FcbChannel => causing(1, 0x10, 0),
+            Cause::FcbSpacing => causing(2, 0x40, 0),
+            Cause::FcbSum => sum_caused(count),
+            Cause::FcbEdge => causing(4, 0x20, 0),
+            Cause::TableShort => causing(5, 0x80, 0),
+            Cause::SequencePairs => causing(6, 0x80, 0),
+            Cause::SequenceCounts => causing(7, 0, 0x10),
+            Cause::NumberRecord => causing(8, 0x80, 0),
+            Cause::SegmentEnds => causing(9, 0x80, 0),
+            Cause::SegmentFields => causing(10, 0, 0x20),
         }
     }
 }
 
 impl Refusal {
-    pub fn number(self) -> u8
-        ensures { λ r. ⌜ r ≡ numberOf self ⌝ }
+    // Its row; `count` is the record's byte count.
+    pub fn row(self, count: u16) -> Row
+        ensures { λ r. ⌜ r ≡ rowOf count self ⌝ }
     {
         match self {
-            Refusal::Accepted => 0,
-            Refusal::NotListed => 1,
-            Refusal::BadRecord => 2,
-            Refusal::LoadCheck(cause) => 3,
-            Refusal::PageWaiting => 4,
-            Refusal::PageStarted => 5,
-            Refusal::NoPage => 6,
-            Refusal::BadIndex => 7,
-            Refusal::TooShort => 8,
-            Refusal::BadStore => 9,
-            Refusal::BadForm => 10,
-            Refusal::TwoPages => 11,
+            Refusal::Accepted => row_with(0, 0x0C, SenseStep::Keep),
+            Refusal::NotListed => row_telling(1, 0x80, 0x80),
+            Refusal::BadRecord => row_with(2, 0, SenseStep::Keep),
+            Refusal::LoadCheck(cause) => check_row(cause.shows(count)),
+            Refusal::PageWaiting => row_with(4, 0x10, SenseStep::Keep),
+            Refusal::PageStarted => row_telling(5, 0x02, 0),
+            Refusal::NoPage => row_with(6, 0, SenseStep::Keep),
+            Refusal::BadIndex => row_with(7, 0, SenseStep::Keep),
+            Refusal::TooShort => row_with(8, 0, SenseStep::Keep),
+            Refusal::BadStore => row_with(9, 0, SenseStep::Keep),
+            Refusal::BadForm => row_with(10, 0, SenseStep::NoSense),
+            Refusal::TwoPages => row_with(11, 0, SenseStep::Keep),
         }
     }
 
     pub fn is_accepted(self) -> bool
         ensures { λ r. ⌜ r ≡ isAccepted self ⌝ }
     {
-        self.number() == 0
-    }
-
-    // Its status, whatever the record; an accepted one's without additions.
-    pub fn status(self) -> u8
-        ensures { λ r. ⌜ ((n : ℕ) → r ≡ rowOf n self .status) ⌝ }
-    {
-        match self {
-            Refusal::Accepted => 0x0C,
-            Refusal::NotListed => 0x0E,
-            Refusal::BadRecord => 0,
-            Refusal::LoadCheck(cause) => 0x0E,
-            Refusal::PageWaiting => 0x10,
-            Refusal::PageStarted => 0x0E,
-            Refusal::NoPage => 0,
-            Refusal::BadIndex => 0,
-            Refusal::TooShort => 0,
-            Refusal::BadStore => 0,
-            Refusal::BadForm => 0,
-            Refusal::TwoPages => 0,
-        }
-    }
-
-    // The sense after it, kept but by 1, 3 and 5.
-    pub fn sense(self, kept: Sense, count: u16) -> Sense
-        ensures { λ r. ⌜ r ≡ senseAfter kept (rowOf count self .sense) ⌝ }
-    {
-        match self {
-            Refusal::Accepted => kept,
-            Refusal::NotListed => sense3(0x80, 0x80, 0),
-            Refusal::BadRecord => kept,
-            Refusal::LoadCheck(cause) => cause.sense(count),
-            Refusal::PageWaiting => kept,
-            Refusal::PageStarted => sense3(0x02, 0, 0),
-            Refusal::NoPage => kept,
-            Refusal::BadIndex => kept,
-            Refusal::TooShort => kept,
-            Refusal::BadStore => kept,
-            Refusal::BadForm => kept,
-            Refusal::TwoPages => kept,
-        }
+        let row = self.row(0);
+        row.number == 0
     }
 }

@@ -1,3 +1,2 @@
-mod Put
-mod Ready
-mod Steps
+mod Outcomes
+mod Kept

@@ -14,11 +14,11 @@ use Rattle.calls.specs.Contents.{coreOk}
 use Rattle.calls.specs.Calls.{Call, lent, Outcome, step}
 use Rattle.calls.specs.Start.{startOutcome, noState, noPrinter}
 use Rattle.calls.proofs.Refused.{nine}
-use Rattle.bytes.specs.State.{stateSize, bytesOf, byteAt, coreAt, worldAt, readable, Left, left, bytesIn, leftBy}
-use Rattle.bytes.specs.Contents.{soundBytes}
-use Rattle.bytes.specs.Packed.{packed}
-use Rattle.bytes.proofs.Round.{back}
-use Rattle.bytes.proofs.Parts.{sound-parts, sound-read}
+use Rattle.state.specs.State.{stateSize, bytesOf, byteAt, coreAt, worldAt, readable, Left, left, bytesIn, leftBy}
+use Rattle.state.specs.Contents.{soundBytes}
+use Rattle.state.specs.Packed.{packed}
+use Rattle.state.proofs.Round.{back}
+use Rattle.state.proofs.Parts.{sound-parts, sound-read}
 use Rattle.trestlepip.specs.Face.{shown, unread, called, callBytes, startBytes}
 
 -- What a call left, with its answer packed, is what the host finds.

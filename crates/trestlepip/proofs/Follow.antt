@@ -7,7 +7,7 @@ use Rattle.calls.specs.Lists.{worldAfter}
 use Rattle.calls.proofs.Good.{Good}
 use Rattle.calls.proofs.Closed.{good-call}
 use Rattle.trestlepip.specs.Face.{Called, Held, heldOf, callOn, bytesAfter, heldIn, shown, callBytes}
-use Rattle.bytes.proofs.Round.{Sized, readable-bytes, state-back, sense-back}
+use Rattle.state.proofs.Round.{Sized, readable-bytes, state-back, sense-back}
 use Rattle.trestlepip.proofs.Sized.{sized-call}
 
 -- One call over the bytes of a printer is its step, and so is each of a list.

@@ -23,11 +23,11 @@ use Rattle.calls.proofs.Refused.{refused-step, refused-start, zeros-nine}
 use Rattle.calls.proofs.Answers.{names}
 use Rattle.calls.proofs.Closed.{no-9, good-calls, started-so, start-good, never-9}
 use Rattle.calls.proofs.Demand3.{after-alike, demand-3}
-use Rattle.bytes.specs.State.{stateSize, bytesOf, byteAt, coreAt, worldAt, readable}
-use Rattle.bytes.specs.Packed.{packed}
+use Rattle.state.specs.State.{stateSize, bytesOf, byteAt, coreAt, worldAt, readable}
+use Rattle.state.specs.Packed.{packed}
 use Rattle.trestlepip.specs.Face.{Called, Held, held, heldOf, callOn, bytesAfter, heldIn, called, shown, unread, callBytes, startBytes}
-use Rattle.bytes.proofs.Round.{Sized, sized, back}
-use Rattle.bytes.proofs.Fields.{field, number-back}
+use Rattle.state.proofs.Round.{Sized, sized, back}
+use Rattle.state.proofs.Fields.{field, number-back}
 use Rattle.trestlepip.proofs.Calls.{zeros-no}
 use Rattle.trestlepip.proofs.Sized.{reset-sized}
 use Rattle.trestlepip.proofs.Follow.{call-on, follow, sized-calls, call-after}

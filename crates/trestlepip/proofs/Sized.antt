@@ -27,7 +27,7 @@ use Rattle.calls.specs.Calls.{Call, command, compose, release, checkOf, refusal
 use Rattle.calls.proofs.Good.{FixedGood, Good}
 use Rattle.calls.proofs.Accepted.{Taken, taken}
 use Rattle.calls.proofs.Refused.{by-outcome}
-use Rattle.bytes.proofs.Round.{Sized}
+use Rattle.state.proofs.Round.{Sized}
 
 -- A reset sets them anew.
 pub reset-sized : (f : Fixed) (blocked : Bool) → FixedGood f → length (f .pitches) ≡ 4 → Sized (resetState f blocked)

@@ -21,7 +21,8 @@ use Rattle.movement.specs.Movement.{Spot, entered, spaced, moved, still, toTop}
 use Rattle.movement.proofs.MovementLaws.{skipped-most}
 use Rattle.line.specs.declared.Causes.{Causes}
 use Rattle.line.specs.Line.{causeByte}
-use Rattle.copies.specs.Copies.{Copies, badPair, sequenceCheck, markIn, sequenceNow, copyCount, copyMark}
+use Rattle.copies.specs.declared.Copies.{Copies}
+use Rattle.copies.specs.Copies.{badPair, sequenceCheck, markIn, sequenceNow, copyCount, copyMark}
 use Rattle.copies.proofs.CopiesLaws.{few-copies, number-most}
 use Rattle.calls.specs.declared.Command.{Command}
 use Rattle.calls.specs.declared.Command.the-variants.{Write, Move, Controls, Loads, Unlisted}
@@ -35,9 +36,9 @@ use Rattle.calls.proofs.Good.{good, few-now}
 use Rattle.calls.proofs.Accepted.{taken, composable}
 use Rattle.calls.proofs.Refused.{by-outcome}
 use Rattle.calls.proofs.Answers.{Shape, sets, quiet, shape}
-use Rattle.bytes.specs.State.{stateSize, byteAt, stateAt, worldAt, readable}
-use Rattle.bytes.specs.Packed.{packed}
-use Rattle.bytes.proofs.Fields.{Fits, Unpacked, bit-most, small, fields, only-fits}
+use Rattle.state.specs.State.{stateSize, byteAt, stateAt, worldAt, readable}
+use Rattle.state.specs.Packed.{packed}
+use Rattle.state.proofs.Fields.{Fits, Unpacked, bit-most, small, fields, only-fits}
 use Rattle.trestlepip.specs.Face.{shown, unread, callBytes, startBytes}
 
 -- what an accepted command tells besides is its lines

@@ -9,8 +9,8 @@ use Rattle.numbers.specs.Numbers.{only}
 use Rattle.calls.specs.Core.{Stores, World}
 use Rattle.calls.specs.Calls.{Call, Outcome, lent, step}
 use Rattle.calls.specs.Start.{startOutcome}
-use Rattle.bytes.specs.State.{stateSize, worldAt, readable, bytesIn}
-use Rattle.bytes.specs.Packed.{packed}
+use Rattle.state.specs.State.{stateSize, worldAt, readable, bytesIn}
+use Rattle.state.specs.Packed.{packed}
 
 -- All that a call hands back and leaves: its packed answer, its buffer, the state's bytes and the stores.
 pub record Called : Type 0 where

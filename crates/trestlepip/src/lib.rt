@@ -1,8 +1,8 @@
 // The printer for a C host: four calls on numbers and lent bytes. None asks anything of its caller, and the contract of each is one equation that
 // fixes the packed answer and every lent byte.
-use bytes::answer;
-use bytes::contents;
-use bytes::state;
+use state::answer;
+use state::codec;
+use state::judge;
 ghost use mathlib.Core.Path.{_≡_};
 ghost use mathlib.Core.List.{[], _∷_};
 ghost use Rattle.calls.specs.Calls.{command, compose, release};
@@ -28,7 +28,7 @@ pub extern "C" fn trestlepip_start(
     if state.len() != state::STATE_BYTES {
         return answer::unread();
     }
-    answer::pack(printer::start(
+    answer::pack(serve::start(
         form,
         pitch0,
         pitch1,
@@ -62,7 +62,7 @@ pub extern "C" fn trestlepip_command(
     if !found.sound {
         return answer::unread();
     }
-    answer::pack(printer::command(found.form, byte, sent, reply, state, page, legends, tables))
+    answer::pack(serve::command(found.form, byte, sent, reply, state, page, legends, tables))
 }
 
 // The stores are only read.
@@ -85,7 +85,7 @@ pub extern "C" fn trestlepip_compose(
     if !found.sound {
         return answer::unread();
     }
-    answer::pack(printer::compose(found.form, copy, out, state, page, legends, tables))
+    answer::pack(serve::compose(found.form, copy, out, state, page, legends, tables))
 }
 
 #[no_mangle]
@@ -105,5 +105,5 @@ pub extern "C" fn trestlepip_release(
     if !found.sound {
         return answer::unread();
     }
-    answer::pack(printer::release(state, page, legends, tables))
+    answer::pack(serve::release(state, page, legends, tables))
 }

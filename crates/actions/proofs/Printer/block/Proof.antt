@@ -1,9 +1,0 @@
--- The switch stored, then nothing moved.
-use Rattle.line.specs.Line.{noCauses}
-use borrow.Author.Needs.{needs}
-use Rattle.actions.proofs.Printer.block.Statement.{statement}
-use Rattle.actions.proofs.Printer.block.Tie as tie
-
-pub block-spec : {M : Type 1} → statement M
-unfolding noCauses
-block-spec = tie.close (tie.spec (λ c κs. search needs) (λ c. λ m b. c .stand .ensures m b))

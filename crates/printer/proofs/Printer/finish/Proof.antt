@@ -1,0 +1,29 @@
+-- Each byte of status and sense by its definition.
+use Rattle.numbers.specs.Numbers.{rowOf}
+use Rattle.calls.specs.Effects.{done}
+use borrow.Author.Needs.{needs}
+use Rattle.printer.proofs.Printer.finish.Statement.{statement}
+use Rattle.printer.proofs.Printer.finish.Tie as tie
+
+pub finish-spec : {M : Type 1} → statement M
+unfolding done rowOf
+finish-spec =
+    tie.close
+    (tie.spec
+    (λ c κs. search needs)
+    (λ c κs. search needs)
+    (λ c κs. search needs)
+    (λ c. search needs)
+    (λ c κs. search needs)
+    (λ c. search needs)
+    (λ c κs. search needs)
+    (λ c. search needs)
+    (λ c κs. search needs)
+    (λ c. λ m b. let e = c .before .before .before .before .before in simp (
+      c .before .before .flag4 .ensures .0,
+      c .before .before .before .flag3 .ensures .0,
+      e .flag2 .ensures .0,
+      e .before .flag .ensures .0,
+      c .before .sense3 .ensures,
+      e .before .before .cause-byte .ensures,
+    )))

@@ -1,0 +1,11 @@
+-- Status and sense are those of the refusal's row.
+use Rattle.calls.specs.Effects.{refused}
+use borrow.Author.Needs.{needs}
+use Rattle.printer.proofs.Printer.refuse.Statement.{statement}
+use Rattle.printer.proofs.Printer.refuse.Tie as tie
+
+pub refuse-spec : {M : Type 1} → statement M
+unfolding refused
+refuse-spec =
+    tie.close (tie.spec (λ c κs. search needs) (λ c κs. search needs) (λ c. λ l b. let s = c .before .before in rw
+    (c .status .ensures (s .args .count), c .before .sense .ensures)))

@@ -1,0 +1,14 @@
+-- The tests in their order: those that are passed are false, and the first that holds gives its number.
+use mathlib.Core.Path.{sym, ap, _∙_}
+use mathlib.Core.Bool.{not}
+use Rattle.seq.proofs.Laws.{clear, hit, pass, first-only}
+use Rattle.numbers.specs.declared.Refusal.the-variants.{NoPage, BadStore}
+use Rattle.refusals.proofs.order.release_refusal.Statement.{statement}
+use Rattle.refusals.proofs.order.release_refusal.Tie as tie
+
+pub release-refusal-spec : {M : Type 1} → statement M
+release-refusal-spec =
+    tie.close
+    (tie.spec
+    (λ c k w ok. sym (first-only (pass BadStore (ap not ok) (hit (ap not w ∙ c .if1 .taken)))))
+    (λ c k w ok. sym (first-only (pass BadStore (ap not ok) (pass NoPage (ap not w ∙ c .if1 .left) clear)))))

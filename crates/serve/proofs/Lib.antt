@@ -1,0 +1,3 @@
+mod Put
+mod Ready
+mod Steps

@@ -1,0 +1,22 @@
+-- The range of its fields, and its check.
+use Rattle.state.specs.State.{stateAt}
+use Rattle.state.specs.Contents.{copiesOk}
+use borrow.Author.Needs.{needs}
+use Rattle.state.proofs.contents.copies_ok.Statement.{statement}
+use Rattle.state.proofs.contents.copies_ok.Tie as tie
+
+returns : tie.Need-returns
+unfolding copiesOk stateAt
+returns c = c .kept-ok .ensures
+
+pub copies-ok-spec : {M : Type 1} → statement M
+copies-ok-spec =
+    tie.close
+    (tie.spec
+    (λ c. search needs)
+    (λ c. search needs)
+    (λ c. search needs)
+    (λ c. search needs)
+    (λ c. search needs)
+    (λ c κs. search needs)
+    returns)
