@@ -11,7 +11,9 @@ use Rattle.seq.specs.Words.{every}
 use Rattle.seq.proofs.Laws.{cond-has, every-at}
 use Rattle.numbers.specs.declared.Sense.{Sense}
 use Rattle.numbers.specs.declared.Refusal.the-variants.{Accepted, NotListed, BadRecord, PageWaiting, PageStarted, TooShort, BadStore, TwoPages}
-use Rattle.numbers.specs.Numbers.{SenseStep, keep, rowOf, numberOf, isAccepted}
+use Rattle.numbers.specs.declared.SenseStep.{SenseStep}
+use Rattle.numbers.specs.declared.SenseStep.the-variants.{Keep}
+use Rattle.numbers.specs.Numbers.{rowOf, numberOf, isAccepted}
 use Rattle.numbers.proofs.Laws.{accepted-is, isAnew, number-not, number-check, number-none}
 use Rattle.movement.specs.declared.Moved.{Moved}
 use Rattle.movement.specs.Movement.{still, toTop}
@@ -24,13 +26,13 @@ use Rattle.calls.specs.declared.Command.the-variants.{Write, Move, Contr
 use Rattle.calls.specs.declared.Control.{Control}
 use Rattle.calls.specs.declared.Control.the-variants.{NoOp, SenseIo, Initialize, Clear, Block, Allow, Select}
 use Rattle.calls.specs.Core.{Core, World, started}
-use Rattle.calls.specs.Commands.{decode, controlTraits, traitsOf, isUnlisted}
+use Rattle.calls.specs.Commands.{Issued, decode, controlTraits, traitsOf, isUnlisted}
 use Rattle.calls.specs.declared.Load.the-variants.{Fcb, TranslateTable, CopyModification, OverlaySequence, CopyNumber}
 use Rattle.calls.specs.Contents.{coreOk}
 use Rattle.calls.specs.Reset.{blankSheet, resetState, reset}
 use Rattle.calls.specs.Effects.{Effect, nothing, refused, done, movedSheet, moveOf, standing, movedCore, marked, written, loaded, atLine1, quietly, doMove, doWrite, doLoad, completing, doControl, doCommand}
 use Rattle.calls.specs.Calls.{Call, command, compose, release, movement, refusalOf, doCompose, doRelease, emptied, released, perform, effect, step}
-use Rattle.calls.proofs.Accepted.{taken}
+use Rattle.calls.proofs.Accepted.{allowed}
 use Rattle.calls.proofs.Refused.{accepted-effect, by-outcome}
 
 abbrev pub isMove : Command → Bool
@@ -41,12 +43,12 @@ isMove (Loads l) = false
 isMove Unlisted = false
 
 abbrev pub isCommand : Call → Bool
-isCommand (command b r reply) = true
+isCommand (command i) = true
 isCommand (compose n out) = false
 isCommand release = false
 
 abbrev pub isCompose : Call → Bool
-isCompose (command b r reply) = false
+isCompose (command i) = false
 isCompose (compose n out) = true
 isCompose release = false
 
@@ -61,26 +63,26 @@ unfolding completing movement traitsOf
 shape-completing k k′ due true c e q s = sets (movedCore due k toTop) noCauses q (rw (e, s))
 shape-completing k k′ due false c e q s = sets k′ noCauses q (rw (e, s))
 
-pub shape : (k : Core) (c : Command) (r : List ℕ) → isUnlisted c ≡ false → Shape k c (doCommand k c r)
+pub shape : (k : Core) (c : Command) (i : Issued) → isUnlisted c ≡ false → Shape k c (doCommand k c i)
 unfolding doCommand doControl doWrite doMove doLoad movement traitsOf controlTraits
-shape k (Write m) r e = sets _ _ refl refl
-shape k (Move m) r e = sets _ _ refl refl
-shape k (Controls NoOp) r e = quiet keep nothing refl refl refl
-shape k (Controls SenseIo) r e = quiet _ _ refl refl refl
-shape k (Controls Initialize) r e = shape-completing k _ true (started (k .state .sheet)) Initialize refl refl refl
-shape k (Controls Clear) r e = shape-completing k _ false (started (k .state .sheet)) Clear refl refl refl
-shape k (Controls Block) r e = sets _ _ refl refl
-shape k (Controls Allow) r e = sets _ _ refl refl
-shape k (Controls (Select n)) r e = sets _ _ refl refl
-shape k (Loads l) r e = sets _ _ refl refl
-shape k Unlisted r e = absurd (true≢false e)
+shape k (Write m) i e = sets _ _ refl refl
+shape k (Move m) i e = sets _ _ refl refl
+shape k (Controls NoOp) i e = quiet Keep nothing refl refl refl
+shape k (Controls SenseIo) i e = quiet _ _ refl refl refl
+shape k (Controls Initialize) i e = shape-completing k _ true (started (k .state .sheet)) Initialize refl refl refl
+shape k (Controls Clear) i e = shape-completing k _ false (started (k .state .sheet)) Clear refl refl refl
+shape k (Controls Block) i e = sets _ _ refl refl
+shape k (Controls Allow) i e = sets _ _ refl refl
+shape k (Controls (Select n)) i e = sets _ _ refl refl
+shape k (Loads l) i e = sets _ _ refl refl
+shape k Unlisted i e = absurd (true≢false e)
 
-performed : (k : Core) (b : ℕ) (r reply : List ℕ) → isAccepted (refusalOf k (command b r reply)) ≡ true → Shape k (decode b) (doCommand k (decode b) r)
-performed k b r reply e = shape k (decode b) r (taken k b r reply e .known)
+performed : (k : Core) (i : Issued) → isAccepted (refusalOf k (command i)) ≡ true → Shape k (decode (i .byte)) (doCommand k (decode (i .byte)) i)
+performed k i e = shape k (decode (i .byte)) i (allowed k i e .known)
 
-pub acted : (k : Core) (b : ℕ) (r reply : List ℕ) → isAccepted (refusalOf k (command b r reply)) ≡ true → Shape k (decode b) (effect k (command b r reply))
+pub acted : (k : Core) (i : Issued) → isAccepted (refusalOf k (command i)) ≡ true → Shape k (decode (i .byte)) (effect k (command i))
 unfolding perform
-acted k b r reply e = rw (accepted-effect k (command b r reply) e) (performed k b r reply e)
+acted k i e = rw (accepted-effect k (command i) e) (performed k i e)
 
 -- The answer's refusal is the one that the order gives.
 names-shape : {k : Core} {c : Command} {e : Effect} → Shape k c e → e .answer .refusal ≡ Accepted
@@ -90,7 +92,7 @@ names-shape (quiet s f q m e) = ap (λ (e : Effect). e .answer .refusal) e
 
 names-perform : (k : Core) (c : Call) → isAccepted (refusalOf k c) ≡ true → perform k c .answer .refusal ≡ Accepted
 unfolding perform doCompose doRelease
-names-perform k (command b r reply) e = names-shape (performed k b r reply e)
+names-perform k (command i) e = names-shape (performed k i e)
 names-perform k (compose n out) e = refl
 names-perform k release e = refl
 
@@ -106,9 +108,9 @@ unfolding done still
 lines-shape (sets k′ x q e) = ap (λ (e : Effect). e .answer .lines) e
 lines-shape (quiet s f q m e) = ap (λ (e : Effect). e .answer .lines) e ∙ sym (ap (λ (v : Moved). v .lines) m)
 
-pub lines-moved : (k : Core) (b : ℕ) (r reply : List ℕ) → isAccepted (refusalOf k (command b r reply)) ≡ true
-    → effect k (command b r reply) .answer .lines ≡ movement k (decode b) .lines
-lines-moved k b r reply e = lines-shape (acted k b r reply e)
+pub lines-moved : (k : Core) (i : Issued) → isAccepted (refusalOf k (command i)) ≡ true
+    → effect k (command i) .answer .lines ≡ movement k (decode (i .byte)) .lines
+lines-moved k i e = lines-shape (acted k i e)
 
 pub lines-of-no-move : (k : Core) (c : Command) → isMove c ≡ false → movement k c .lines ≡ 0
 unfolding movement still toTop
@@ -121,7 +123,7 @@ lines-of-no-move k Unlisted e = refl
 
 pub lines-of-others : (k : Core) (c : Call) → isCommand c ≡ false → effect k c .answer .lines ≡ 0
 unfolding perform doCompose doRelease refused
-lines-of-others k (command b r reply) e = absurd (true≢false e)
+lines-of-others k (command i) e = absurd (true≢false e)
 lines-of-others k (compose n out) e = by-outcome (λ (x : Effect). x .answer .lines ≡ 0) k (compose n out) (λ a. refl) (λ a. refl)
 lines-of-others k release e = by-outcome (λ (x : Effect). x .answer .lines ≡ 0) k release (λ a. refl) (λ a. refl)
 
@@ -136,7 +138,7 @@ copy-shape (quiet s f q m e) = rw e (refl, refl)
 
 pub no-copy : (k : Core) (c : Call) → (isCompose c && isAccepted (refusalOf k c)) ≡ false → NoCopy (effect k c)
 unfolding perform doRelease refused
-no-copy k (command b r reply) e = by-outcome NoCopy k (command b r reply) (λ a. copy-shape (performed k b r reply a)) (λ a. (refl, refl))
+no-copy k (command i) e = by-outcome NoCopy k (command i) (λ a. copy-shape (performed k i a)) (λ a. (refl, refl))
 no-copy k (compose n out) e = by-outcome NoCopy k (compose n out) (λ a. absurd (true≢false (sym a ∙ e))) (λ a. (refl, refl))
 no-copy k release e = by-outcome NoCopy k release (λ a. (refl, refl)) (λ a. (refl, refl))
 
@@ -146,9 +148,9 @@ unfolding done
 anew-shape (sets k′ x q e) n = rw e
 anew-shape (quiet s f q m e) n = absurd (true≢false (sym q ∙ n))
 
-pub sets-anew : (k : Core) (b : ℕ) (r reply : List ℕ) → isAccepted (refusalOf k (command b r reply)) ≡ true → traitsOf (decode b) .quiet ≡ false
-    → isAnew (effect k (command b r reply) .sense) ≡ true
-sets-anew k b r reply e q = anew-shape (acted k b r reply e) q
+pub sets-anew : (k : Core) (i : Issued) → isAccepted (refusalOf k (command i)) ≡ true → traitsOf (decode (i .byte)) .quiet ≡ false
+    → isAnew (effect k (command i) .sense) ≡ true
+sets-anew k i e q = anew-shape (acted k i e) q
 
 -- Page ready exactly when this very command completed a page: none waited before it, and one waits after it.
 cond-waits : (t : Bool) (a b : Sheet) → a .waiting ≡ false → b .waiting ≡ true → cond t a b .waiting ≡ not t
@@ -165,26 +167,26 @@ unfolding completing movement done movedSheet toTop still
 waits-completing k k′ due true c w e s = rw (e, s)
 waits-completing k k′ due false c w e s = rw (e, s) w
 
-waits-after : (k : Core) (c : Command) (r : List ℕ) → k .state .sheet .waiting ≡ false → doCommand k c r .core .state .sheet .waiting ≡ not (eqb (movement k c .pages) 0)
+waits-after : (k : Core) (c : Command) (i : Issued) → k .state .sheet .waiting ≡ false → doCommand k c i .core .state .sheet .waiting ≡ not (eqb (movement k c .pages) 0)
 unfolding doCommand doControl doWrite doMove doLoad done loaded written marked atLine1 reset resetState blankSheet movement still controlTraits refused
-waits-after k (Write m) r e = waits-moved false _ (moveOf (k .state) m) e
-waits-after k (Move m) r e = waits-moved false (k .state .sheet) (moveOf (k .state) m) e
-waits-after k (Controls NoOp) r e = e
-waits-after k (Controls SenseIo) r e = e
-waits-after k (Controls Initialize) r e = waits-completing k (reset k) true (started (k .state .sheet)) Initialize refl refl refl
-waits-after k (Controls Clear) r e = waits-completing k k false (started (k .state .sheet)) Clear e refl refl
-waits-after k (Controls Block) r e = e
-waits-after k (Controls Allow) r e = e
-waits-after k (Controls (Select n)) r e = e
-waits-after k (Loads Fcb) r e = e
-waits-after k (Loads TranslateTable) r e = e
-waits-after k (Loads CopyModification) r e = e
-waits-after k (Loads OverlaySequence) r e = e
-waits-after k (Loads CopyNumber) r e = e
-waits-after k Unlisted r e = e
+waits-after k (Write m) i e = waits-moved false _ (moveOf (k .state) m) e
+waits-after k (Move m) i e = waits-moved false (k .state .sheet) (moveOf (k .state) m) e
+waits-after k (Controls NoOp) i e = e
+waits-after k (Controls SenseIo) i e = e
+waits-after k (Controls Initialize) i e = waits-completing k (reset k) true (started (k .state .sheet)) Initialize refl refl refl
+waits-after k (Controls Clear) i e = waits-completing k k false (started (k .state .sheet)) Clear e refl refl
+waits-after k (Controls Block) i e = e
+waits-after k (Controls Allow) i e = e
+waits-after k (Controls (Select n)) i e = e
+waits-after k (Loads Fcb) i e = e
+waits-after k (Loads TranslateTable) i e = e
+waits-after k (Loads CopyModification) i e = e
+waits-after k (Loads OverlaySequence) i e = e
+waits-after k (Loads CopyNumber) i e = e
+waits-after k Unlisted i e = e
 
-abbrev Ready : Core → Effect → Type 0
-Ready k e = e .answer .ready ≡ (not (k .state .sheet .waiting) && e .core .state .sheet .waiting)
+abbrev ReadyHolds : Core → Effect → Type 0
+ReadyHolds k e = e .answer .ready ≡ (not (k .state .sheet .waiting) && e .core .state .sheet .waiting)
 
 now-waits : (w a b : Bool) → w ≡ false → b ≡ a → a ≡ (not w && b)
 now-waits true a b e h = absurd (true≢false e)
@@ -201,7 +203,7 @@ was-free {w = true} {q = false} n e = e
 was-free {w = false} n e = refl
 
 ready-shape : {k : Core} {c : Command} {e : Effect} → Shape k c e → (k .state .sheet .waiting && not (traitsOf c .quiet)) ≡ false
-    → (k .state .sheet .waiting ≡ false → e .core .state .sheet .waiting ≡ not (eqb (movement k c .pages) 0)) → Ready k e
+    → (k .state .sheet .waiting ≡ false → e .core .state .sheet .waiting ≡ not (eqb (movement k c .pages) 0)) → ReadyHolds k e
 unfolding done
 ready-shape {k} {c} {e} (sets k′ x q h) f w =
     let free : k .state .sheet .waiting ≡ false = was-free q f in
@@ -212,15 +214,15 @@ pub released-waits : (k : Core) → released k .state .sheet .waiting ≡ false
 unfolding released emptied reset resetState blankSheet
 released-waits k = cond-has (λ (x : Core). x .state .sheet .waiting ≡ false) (k .state .sheet .due) (λ t. refl) (λ t. refl)
 
-ready-perform : (k : Core) (c : Call) → isAccepted (refusalOf k c) ≡ true → Ready k (perform k c)
+ready-perform : (k : Core) (c : Call) → isAccepted (refusalOf k c) ≡ true → ReadyHolds k (perform k c)
 unfolding perform doCompose doRelease
-ready-perform k (command b r reply) e = ready-shape (performed k b r reply e) (taken k b r reply e .free) (waits-after k (decode b) r)
+ready-perform k (command i) e = ready-shape (performed k i e) (allowed k i e .free) (waits-after k (decode (i .byte)) i)
 ready-perform k (compose n out) e = not-both (k .state .sheet .waiting)
 ready-perform k release e = rw (released-waits k) (sym (and-false (not (k .state .sheet .waiting))))
 
-pub ready-exactly : (k : Core) (c : Call) → Ready k (effect k c)
+pub ready-exactly : (k : Core) (c : Call) → ReadyHolds k (effect k c)
 unfolding refused
-ready-exactly k c = by-outcome (Ready k) k c (ready-perform k c) (λ e. not-both (k .state .sheet .waiting))
+ready-exactly k c = by-outcome (ReadyHolds k) k c (ready-perform k c) (λ e. not-both (k .state .sheet .waiting))
 
 -- Every command completes at most one page, on every form, so that number 11 is never given.
 pub one-page-only : (k : Core) (c : Command) → movement k c .pages ≤ 1
@@ -240,11 +242,11 @@ not-two k c = go (ltb 1 (movement k c .pages)) refl
     go false e = refl
 
 -- a number that is neither 0 nor one of those that Command gives before 11, nor 9 unless the contents are bad, is not given
-pub command-number : (n : ℕ) (k : Core) (b : ℕ) (r reply : List ℕ) → (not (coreOk k) ≡ false) ⊎ (eqb 9 n ≡ false)
+pub command-number : (n : ℕ) (k : Core) (i : Issued) → (not (coreOk k) ≡ false) ⊎ (eqb 9 n ≡ false)
     → every (map (λ m. not (eqb m n)) (0 ∷ 1 ∷ 4 ∷ 2 ∷ 5 ∷ 3 ∷ 8 ∷ [])) ≡ true
-    → eqb (numberOf (refusalOf k (command b r reply))) n ≡ false
+    → eqb (numberOf (refusalOf k (command i))) n ≡ false
 unfolding refusalOf rowOf
-command-number n k b r reply nine other =
+command-number n k i nine other =
     number-not n _ BadStore _ nine
     (number-not n _ NotListed _ (inr (not-true _ (every-at 1 _ other)))
     (number-not n _ PageWaiting _ (inr (not-true _ (every-at 2 _ other)))
@@ -252,8 +254,8 @@ command-number n k b r reply nine other =
     (number-not n _ PageStarted _ (inr (not-true _ (every-at 4 _ other)))
     (number-check n _ _ (not-true _ (every-at 5 _ other))
     (number-not n _ TooShort _ (inr (not-true _ (every-at 6 _ other)))
-    (number-not n _ TwoPages [] (inl (not-two k (decode b))) (number-none n (not-true _ (every-at 0 _ other))))))))))
+    (number-not n _ TwoPages [] (inl (not-two k (decode (i .byte)))) (number-none n (not-true _ (every-at 0 _ other))))))))))
 
-pub never-11 : (k : Core) (b : ℕ) (r reply : List ℕ) → eqb (numberOf (refusalOf k (command b r reply))) 11 ≡ false
+pub never-11 : (k : Core) (i : Issued) → eqb (numberOf (refusalOf k (command i))) 11 ≡ false
 unfolding every
-never-11 k b r reply = command-number 11 k b r reply (inr refl) refl
+never-11 k i = command-number 11 k i (inr refl) refl

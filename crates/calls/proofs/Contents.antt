@@ -15,7 +15,7 @@ use Rattle.calls.specs.Core.{Stores, Core, sizesOk, withState, withPage,
 use Rattle.calls.specs.Commands.{codes, lookUp, decode, isUnlisted}
 use Rattle.calls.specs.Contents.{lineOk, rangesOk, dueOk, markOk, clauses, coreOk}
 use Rattle.calls.specs.Reset.{blankSheet, noCells, resetState, resetStores, fresh}
-use Rattle.calls.specs.Start.{startRefusal}
+use Rattle.calls.specs.Start.{asked, startRefusal}
 
 -- A printer just started, and the same with one part replaced.
 abbrev with-form : ℕ → List ℕ → Core
@@ -116,7 +116,7 @@ abbrev right : Stores
 right = sized 26928 8192 1024
 
 abbrev starts : ℕ → List ℕ → Stores → ℕ
-starts len ps m = numberOf (startRefusal len ps m)
+starts len ps m = numberOf (startRefusal (asked len ps) m)
 
 pub start-numbers :
     (starts 84 (10 ∷ 0 ∷ 12 ∷ 15 ∷ []) right ∷ starts 288 (15 ∷ 0 ∷ 0 ∷ 0 ∷ []) right

@@ -14,7 +14,7 @@ use Rattle.numbers.specs.Numbers.{isSound}
 use Rattle.numbers.proofs.Laws.{sound-is}
 use Rattle.form.specs.declared.Layout.{Layout}
 use Rattle.form.specs.declared.Forms.{Forms}
-use Rattle.form.specs.Form.{formLengths, formOk, fcbCheck, layoutOf, printable, startFcb, fcbNow, formsOf, formsInRange}
+use Rattle.form.specs.Form.{formLengths, formOk, fcbCheck, layoutOf, printable, startFcb, fcbSize, fcbNow, formsOf, formsInRange}
 use Rattle.form.proofs.FormLaws.{form-listed, fcb-fits, few-lines, some-line, start-sound}
 use Rattle.line.specs.Line.{startSlots, slotsInRange}
 use Rattle.line.proofs.LineLaws.{length-startTables}
@@ -24,40 +24,11 @@ use Rattle.legends.specs.Legends.{legendsOk, noLegends}
 use Rattle.legends.proofs.LegendLaws.{none-ok}
 use Rattle.calls.specs.declared.Fixed.{Fixed}
 use Rattle.calls.specs.declared.Sheet.{Sheet}
-use Rattle.calls.specs.Core.{State, Stores, Core, sizesOk, linesNow, P, laidOut}
+use Rattle.calls.specs.declared.State.{State}
+use Rattle.calls.specs.Core.{Stores, Core, sizesOk, linesNow, P, laidOut}
+use Rattle.calls.specs.Premises.{Sizes, FormsGood, CopiesGood, SheetGood, FixedGood, Good}
 use Rattle.calls.specs.Contents.{lineOk, rangesOk, dueOk, markOk, coreOk}
 use Rattle.calls.specs.Reset.{blankSheet, noCells, resetState, resetStores}
-
-pub record Sizes (m : Stores) : Type 0 where
-  pub page : length (m .page) ≡ pageSize
-  pub legends : length (m .legends) ≡ legendSize
-  pub tables : length (m .tables) ≡ tableSize
-
-pub record FormsGood (len : ℕ) (f : Forms) : Type 0 where
-  pub range : formsInRange f ≡ true
-  pub taken : fcbCheck len (fcbNow f) ≡ Sound
-
-pub record CopiesGood (c : Copies) : Type 0 where
-  pub range : copiesInRange c ≡ true
-  pub taken : sequenceCheck (sequenceNow c) ≡ Sound
-
-pub record SheetGood (p : ℕ) (s : Sheet) : Type 0 where
-  pub low : 1 ≤ s .line
-  pub high : s .line ≤ p
-  pub due : dueOk s ≡ true
-  pub mark : markOk s ≡ true
-
-abbrev pub FixedGood : Fixed → Type 0
-FixedGood f = formOk (f .length) (f .pitches) ≡ true
-
-pub record Good (k : Core) : Type 0 where
-  pub sizes : Sizes (k .stores)
-  pub fixed : FixedGood (k .state .fixed)
-  pub forms : FormsGood (k .state .fixed .length) (k .state .forms)
-  pub slots : slotsInRange (k .state .slots) ≡ true
-  pub copies : CopiesGood (k .state .copies)
-  pub sheet : SheetGood (P (k .state)) (k .state .sheet)
-  pub legends : legendsOk (k .stores .legends) ≡ true
 
 -- They are just the contents that get no 9.
 pub sizes-good : (m : Stores) → sizesOk m ≡ true → Sizes m
@@ -80,9 +51,9 @@ good k e =
     record {
       sizes = sizes-good (k .stores) (every-at 0 _ e);
       fixed = every-at 0 _ r;
-      forms = record { range = every-at 1 _ r; taken = sound-is _ (every-at 4 _ e) };
+      forms = record { range = every-at 1 _ r; sound = sound-is _ (every-at 4 _ e) };
       slots = every-at 2 _ r;
-      copies = record { range = every-at 3 _ r; taken = sound-is _ (every-at 5 _ e) };
+      copies = record { range = every-at 3 _ r; sound = sound-is _ (every-at 5 _ e) };
       sheet = record { low = leb-true _ _ (every-at 0 _ l); high = leb-true _ _ (every-at 1 _ l); due = every-at 2 _ e; mark = every-at 3 _ e };
       legends = every-at 6 _ e;
     }
@@ -99,21 +70,21 @@ ok k g =
       line-ok (P (k .state)) (k .state .sheet) (g .sheet .low) (g .sheet .high),
       g .sheet .due,
       g .sheet .mark,
-      g .forms .taken,
-      g .copies .taken,
+      g .forms .sound,
+      g .copies .sound,
       g .legends,
     )
 
 -- Forms control that its load takes is kept as it was sent, and has a line 1.
 pub forms-now : (r : List ℕ) → fcbNow (formsOf r) ≡ r
 unfolding formsOf
-forms-now r = padded-take 144 r
+forms-now r = padded-take fcbSize r
 
 module _ (len : ℕ) (r : List ℕ) (l : listed formLengths len ≡ true) (e : fcbCheck len r ≡ Sound) where
   pub forms-good : FormsGood len (formsOf r)
   unfolding formsInRange formsOf every
   forms-good =
-      record { range = rw (le-leb (length r) 144 (fcb-fits len r l e), padded-zero 144 r); taken = rw (padded-take 144 r) e }
+      record { range = rw (le-leb (length r) fcbSize (fcb-fits len r l e), padded-zero fcbSize r); sound = rw (padded-take fcbSize r) e }
 
   pub forms-line : 1 ≤ length (printable len (fcbNow (formsOf r)))
   forms-line = rw (forms-now r) (some-line len r l e)
@@ -124,7 +95,7 @@ blank-good p l a b = record { low = a; high = b; due = refl; mark = refl }
 
 start-copies : CopiesGood startCopies
 unfolding startCopies copiesInRange sequenceCheck pairsOf copiesOf every padded firstOr when
-start-copies = record { range = refl; taken = refl }
+start-copies = record { range = refl; sound = refl }
 
 start-slots : slotsInRange startSlots ≡ true
 unfolding startSlots slotsInRange every
@@ -164,4 +135,4 @@ pub few-now : (k : Core) → Good k → P (k .state) ≤ pageLines
 unfolding linesNow
 few-now k g =
     let f = k .state .fixed in
-    few-lines (f .length) _ (form-listed (f .length) (f .pitches) (g .fixed)) (g .forms .taken)
+    few-lines (f .length) _ (form-listed (f .length) (f .pitches) (g .fixed)) (g .forms .sound)

@@ -3,18 +3,20 @@ use Prim.Native.Nat.{ℕ}
 use mathlib.Core.Path.{_≡_, refl, ap, _∙_}
 use mathlib.Core.Bool.{Bool, true, false, and-false}
 use mathlib.Core.List.{List, [], _∷_}
+use mathlib.Core.Logic.{inr}
+use lib.Dec.{eqb}
 use Rattle.seq.specs.Words.{firstOr, when, every}
 use Rattle.seq.proofs.Laws.{First, first-is, first-only, cond-has}
 use Rattle.numbers.specs.declared.Refusal.{Refusal}
-use Rattle.numbers.specs.declared.Refusal.the-variants.{Accepted, NoPage, BadIndex, TooShort, BadStore}
-use Rattle.numbers.specs.Numbers.{senseAfter, rowOf, isAccepted, only}
-use Rattle.numbers.proofs.Laws.{tells, sense-kept}
+use Rattle.numbers.specs.declared.Refusal.the-variants.{Accepted, NotListed, BadRecord, PageWaiting, PageStarted, NoPage, BadIndex, TooShort, BadStore, TwoPages}
+use Rattle.numbers.specs.Numbers.{senseAfter, rowOf, numberOf, isAccepted, only}
+use Rattle.numbers.proofs.Laws.{tells, sense-kept, number-not, number-check, number-none}
 use Rattle.form.specs.Form.{formLengths, formOk}
 use Rattle.calls.specs.Core.{Stores, Core, World, sizesOk}
 use Rattle.calls.specs.Contents.{rangesOk, coreOk}
 use Rattle.calls.specs.Effects.{Effect, refused}
 use Rattle.calls.specs.Calls.{Call, command, compose, release, testsOf, refusalOf, doCompose, perform, sizeOf, effect, lent, Outcome, step}
-use Rattle.calls.specs.Start.{startTests, startRefusal, noState, noPrinter, startOutcome}
+use Rattle.calls.specs.Start.{Asked, startTests, startRefusal, noState, noPrinter, startOutcome}
 
 -- What a call does is what its refusal says, or what the accepted call does.
 pub refused-effect : (k : Core) (c : Call) → isAccepted (refusalOf k c) ≡ false → effect k c ≡ refused k (sizeOf c) (refusalOf k c)
@@ -39,9 +41,26 @@ pub refused-step : (w : World) (c : Call) → isAccepted (refusalOf (w .core) c)
 unfolding step refused
 refused-step w c e = rw (refused-effect (w .core) c e)
 
--- Refusals but 1, 3 and 5 leave the sense too.
+-- Number 10 is Start's alone.
+no-10 : (k : Core) (c : Call) → eqb (numberOf (refusalOf k c)) 10 ≡ false
+unfolding refusalOf rowOf
+no-10 k (command i) =
+    number-not 10 _ BadStore _ (inr refl)
+    (number-not 10 _ NotListed _ (inr refl)
+    (number-not 10 _ PageWaiting _ (inr refl)
+    (number-not 10 _ BadRecord _ (inr refl)
+    (number-not 10 _ PageStarted _ (inr refl)
+    (number-check 10 _ _ refl (number-not 10 _ TooShort _ (inr refl) (number-not 10 _ TwoPages [] (inr refl) (number-none 10 refl))))))))
+no-10 k (compose n out) =
+    number-not 10 _ BadStore _ (inr refl)
+    (number-not 10 _ NoPage _ (inr refl)
+    (number-not 10 _ BadIndex _ (inr refl) (number-not 10 _ TooShort [] (inr refl) (number-none 10 refl))))
+no-10 k release = number-not 10 _ BadStore _ (inr refl) (number-not 10 _ NoPage [] (inr refl) (number-none 10 refl))
+
+-- Refusals other than 1, 3 and 5 leave the sense too.
 pub refused-keeps : (w : World) (c : Call) → isAccepted (refusalOf (w .core) c) ≡ false → tells (refusalOf (w .core) c) ≡ false → step w c .world ≡ w
-refused-keeps w c e h = ap (λ (o : Outcome). o .world) (refused-step w c e) ∙ rw (sense-kept (sizeOf c) (refusalOf (w .core) c) h)
+refused-keeps w c e h =
+    ap (λ (o : Outcome). o .world) (refused-step w c e) ∙ rw (sense-kept (sizeOf c) (refusalOf (w .core) c) h (no-10 (w .core) c))
 
 -- Compose leaves all as it was: none of its refusals touches the sense.
 compose-tells : (a b c d : Bool)
@@ -57,7 +76,7 @@ pub compose-keeps : (w : World) (n : ℕ) (out : List ℕ) → step w (compose n
 unfolding step refused perform doCompose refusalOf
 compose-keeps w n out =
     by-outcome (λ (e : Effect). record { core = e .core; sense = senseAfter (w .sense) (e .sense) } ≡ w) (w .core) (compose n out) (λ a. refl)
-    (λ a. rw (sense-kept 0 (refusalOf (w .core) (compose n out)) (compose-tells _ _ _ _)))
+    (λ a. rw (sense-kept 0 (refusalOf (w .core) (compose n out)) (compose-tells _ _ _ _) (no-10 (w .core) (compose n out))))
 
 -- The number given is that of the first test of the order which holds, and only of that: Accepted exactly where none does.
 pub first-given : (k : Core) (c : Call) → First Accepted (testsOf k c) (refusalOf k c)
@@ -68,18 +87,18 @@ pub only-first : (k : Core) (c : Call) (x : Refusal) → First Accepted (testsOf
 unfolding refusalOf
 only-first k c x f = first-only f
 
-pub start-first : (len : ℕ) (ps : List ℕ) (m : Stores) → First Accepted (startTests len ps m) (startRefusal len ps m)
+pub start-first : (a : Asked) (m : Stores) → First Accepted (startTests a m) (startRefusal a m)
 unfolding startRefusal
-start-first len ps m = first-is Accepted (startTests len ps m)
+start-first a m = first-is Accepted (startTests a m)
 
-pub start-only : (len : ℕ) (ps : List ℕ) (m : Stores) (x : Refusal) → First Accepted (startTests len ps m) x → startRefusal len ps m ≡ x
+pub start-only : (a : Asked) (m : Stores) (x : Refusal) → First Accepted (startTests a m) x → startRefusal a m ≡ x
 unfolding startRefusal
-start-only len ps m x f = first-only f
+start-only a m x f = first-only f
 
 -- Stores of a wrong size, or contents no printer has: 9 from every call, and nothing changes.
 bad-store : (k : Core) (c : Call) → coreOk k ≡ false → refusalOf k c ≡ BadStore
 unfolding refusalOf firstOr when
-bad-store k (command b r reply) e = rw e
+bad-store k (command i) e = rw e
 bad-store k (compose n out) e = rw e
 bad-store k release e = rw e
 
@@ -88,10 +107,10 @@ unfolding isAccepted rowOf
 nine w c e = refused-step w c (ap isAccepted (bad-store (w .core) c e)) ∙ rw (bad-store (w .core) c e)
 
 -- A refused Start hands back a state of all zeros and leaves the stores; every call but Start refuses that state with 9, whatever the stores.
-pub refused-start : (len : ℕ) (ps : List ℕ) (m : Stores) → isAccepted (startRefusal len ps m) ≡ false
-    → startOutcome len ps m ≡ record { answer = only (startRefusal len ps m) 0; buffer = []; world = noPrinter m }
+pub refused-start : (a : Asked) (m : Stores) → isAccepted (startRefusal a m) ≡ false
+    → startOutcome a m ≡ record { answer = only (startRefusal a m) (rowOf 0 (startRefusal a m) .status); buffer = []; world = noPrinter m }
 unfolding startOutcome
-refused-start len ps m e = rw e
+refused-start a m e = rw e
 
 zeros-bad : (m : Stores) → coreOk (noPrinter m .core) ≡ false
 unfolding coreOk every noPrinter noState rangesOk formOk formLengths

@@ -22,12 +22,12 @@ use Rattle.line.specs.Line.{slotAt, putSlot, isLoaded, serving, unprintable, st
 use Rattle.copies.specs.Copies.{tableCheck, pairsOf, copiesOf, sequenceCheck, markIn, numberCheck, withSequence, withReference, startCopies, copyCount, copyNumber, copyMark, copiesInRange}
 use Rattle.legends.specs.Legends.{segmentOf, badHead, cut, segments, legendCheck, storedLegends, legendText, storedSegments, legendsOk, noLegends, covers, shown, copyFrom, composed}
 use Rattle.calls.specs.Core.{sizesOk, linesNow, started}
-use Rattle.calls.specs.Commands.{codes, lookUp, decode, controlTraits, traitsOf}
+use Rattle.calls.specs.Commands.{issued, codes, lookUp, decode, controlTraits, traitsOf}
 use Rattle.calls.specs.Contents.{lineOk, rangesOk, dueOk, markOk, coreOk}
 use Rattle.calls.specs.Reset.{blankSheet, noCells, resetState, resetStores, reset, fresh, byte3, senseBytes}
 use Rattle.calls.specs.Effects.{refused, done, movedSheet, moveOf, doMove, marked, written, writeCauses, doWrite, loadCheck, atLine1, slotLoaded, slotSelected, loaded, loadCauses, doLoad, completing, doControl, doCommand}
 use Rattle.calls.specs.Calls.{checkOf, movement, refusalOf, copyAt, doCompose, emptied, released, doRelease, perform, effect, step}
-use Rattle.calls.specs.Start.{startRefusal, startWorld, noState, noPrinter, startOutcome}
+use Rattle.calls.specs.Start.{asked, startRefusal, startWorld, noState, noPrinter, startOutcome}
 use Rattle.calls.specs.Lists.{Deed, commanded, wasReleased, worldAfter, counts, readOf, deedOf, finishesReset, copiesOfPage, given, sinceNow, note, sinceOver, sinceReset}
 
 -- A printer started over stores full of other bytes, with these pitches on the 3½ inch form; R1 to R12 have all four pitches 10.
@@ -35,7 +35,7 @@ abbrev old : Stores
 old = record { page = replicate 26928 5; legends = replicate 8192 6; tables = replicate 1024 7 }
 
 abbrev begun : List ℕ → World
-begun ps = startOutcome 84 ps old .world
+begun ps = startOutcome (asked 84 ps) old .world
 
 abbrev tens : List ℕ
 tens = replicate 4 10
@@ -65,10 +65,10 @@ see r = seenOf (step (worldAfter (begun (r .pitches)) (r .before)) (r .last))
 
 -- Calls: a command alone, one with a record, Compose into an output of just the form's 15 lines.
 abbrev cmd : ℕ → Call
-cmd b = command b [] []
+cmd b = command (issued b [] [])
 
 abbrev with : ℕ → List ℕ → Call
-with b r = command b r []
+with b r = command (issued b r [])
 
 abbrev copy : ℕ → Call
 copy n = compose n (zeros 3060)
@@ -200,7 +200,7 @@ ours =
     -- Underscore then character, blank then code, code then blank, two underscores.
     ∷ on-line (with 0x01 (0x6D ∷ 0x40 ∷ 0xC1 ∷ 0x6D ∷ []) ∷ []) (with 0x01 (0xC1 ∷ 0xC2 ∷ 0x40 ∷ 0x6D ∷ [])) 0x0C noSense (page (1 ∷ 2 ∷ 1 ∷ 0x2D ∷ []) 26924)
     -- Sense replies 24 bytes, then clears; the byte after them keeps its value.
-    ∷ record { pitches = tens; before = with 0x63 (zeros 18) ∷ []; last = command 0x04 [] (replicate 25 9); want = record { answer = says Accepted 0x0C false 0; buffer = 0x02 ∷ 0x08 ∷ 0 ∷ 0xC0 ∷ zeros 18 ++ (0 ∷ 0x12 ∷ 9 ∷ []); sense = noSense; sheet = at 1; copies = 1; page = noPage } }
+    ∷ record { pitches = tens; before = with 0x63 (zeros 18) ∷ []; last = command (issued 0x04 [] (replicate 25 9)); want = record { answer = says Accepted 0x0C false 0; buffer = 0x02 ∷ 0x08 ∷ 0 ∷ 0xC0 ∷ zeros 18 ++ (0 ∷ 0x12 ∷ 9 ∷ []); sense = noSense; sheet = at 1; copies = 1; page = noPage } }
     ∷ []
 
 -- What counts since the latest finished reset, of lists with refused calls, No-Op, Sense and Compose among them: first since the Release
@@ -215,7 +215,7 @@ lists =
     record {
       calls =
           cmd 0x73 ∷ with 0x01 (0xC1 ∷ []) ∷ cmd 0xFF ∷ cmd 0x37 ∷ cmd 0x0B ∷ release ∷ release ∷ cmd 0x03 ∷ with 0x0B (1 ∷ []) ∷ with 0x63 (zeros 21)
-          ∷ cmd 0x7B ∷ command 0x04 [] (zeros 24) ∷ [];
+          ∷ cmd 0x7B ∷ command (issued 0x04 [] (zeros 24)) ∷ [];
       switch = true;
       deeds = commanded 0x0B [] ∷ commanded 0x7B [] ∷ [];
     }

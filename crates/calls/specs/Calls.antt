@@ -13,40 +13,42 @@ use Rattle.numbers.specs.declared.Checked.{Checked}
 use Rattle.numbers.specs.declared.Checked.the-variants.{Sound}
 use Rattle.numbers.specs.declared.Refusal.{Refusal}
 use Rattle.numbers.specs.declared.Refusal.the-variants.{Accepted, NotListed, BadRecord, PageWaiting, PageStarted, NoPage, BadIndex, TooShort, BadStore, TwoPages}
-use Rattle.numbers.specs.Numbers.{keep, senseAfter, isAccepted, only, checked}
+use Rattle.numbers.specs.declared.SenseStep.the-variants.{Keep}
+use Rattle.numbers.specs.Numbers.{senseAfter, isAccepted, only, checked}
 use Rattle.movement.specs.declared.Moved.{Moved}
 use Rattle.movement.specs.Movement.{toTop}
 use Rattle.copies.specs.Copies.{copyCount, copyNumber, copyMark}
 use Rattle.legends.specs.Legends.{composed}
 use Rattle.calls.specs.declared.Command.{Command}
 use Rattle.calls.specs.declared.Command.the-variants.{Write, Move, Controls, Loads, Unlisted}
+use Rattle.calls.specs.declared.State.{State}
 use Rattle.calls.specs.Core.{Core, World, withState, withPage, withSheet, P, started}
-use Rattle.calls.specs.Commands.{decode, controlTraits, traitsOf, isUnlisted, isLoad}
+use Rattle.calls.specs.Commands.{Issued, decode, controlTraits, traitsOf, isUnlisted, isLoad}
 use Rattle.calls.specs.Contents.{coreOk}
 use Rattle.calls.specs.Reset.{blankSheet, noCells, reset}
 use Rattle.calls.specs.Effects.{Effect, nothing, refused, moveOf, standing, loadCheck, doCommand}
 
--- Calls: a command has a byte, a record and a reply buffer; Compose a copy index from 1 and an output buffer.
+-- Calls: a command as it is issued; Compose, with a copy index from 1 and an output buffer; Release.
 pub data Call : Type 0 where
-  command : ℕ → List ℕ → List ℕ → Call
+  command : Issued → Call
   compose : ℕ → List ℕ → Call
   release : Call
 
 -- Numbers, 2: the records that a write and a load cannot have. Control and immediate commands ignore theirs.
-abbrev pub badRecord : Command → List ℕ → Bool
-badRecord (Write m) r = empty r || ltb lineWidth (length r)
-badRecord (Move m) r = false
-badRecord (Controls c) r = false
-badRecord (Loads l) r = ltb legendSize (length r)
-badRecord Unlisted r = false
+abbrev pub badRecord : Command → Issued → Bool
+badRecord (Write m) i = empty (i .sent) || ltb lineWidth (length (i .sent))
+badRecord (Move m) i = false
+badRecord (Controls c) i = false
+badRecord (Loads l) i = ltb legendSize (length (i .sent))
+badRecord Unlisted i = false
 
 -- Numbers, 3: what a load's check finds.
-unfoldable pub checkOf : ℕ → Command → List ℕ → Checked
-checkOf len (Write m) r = Sound
-checkOf len (Move m) r = Sound
-checkOf len (Controls c) r = Sound
-checkOf len (Loads l) r = loadCheck len l r
-checkOf len Unlisted r = Sound
+unfoldable pub checkOf : State → Command → Issued → Checked
+checkOf s (Write m) i = Sound
+checkOf s (Move m) i = Sound
+checkOf s (Controls c) i = Sound
+checkOf s (Loads l) i = loadCheck s l (i .sent)
+checkOf s Unlisted i = Sound
 
 -- Numbers, 11: the movement that a command makes, with the pages that it completes.
 unfoldable pub movement : Core → Command → Moved
@@ -57,15 +59,15 @@ movement k (Loads l) = standing k
 movement k Unlisted = standing k
 
 -- Numbers: the order of Command is 9, 1, 4, 2, 5, 3, 8, 11.
-abbrev pub commandTests : Core → Command → List ℕ → List ℕ → List (Option Refusal)
-commandTests k c r reply =
+abbrev pub commandTests : Core → Command → Issued → List (Option Refusal)
+commandTests k c i =
     when (not (coreOk k)) BadStore
     ∷ when (isUnlisted c) NotListed
     ∷ when (k .state .sheet .waiting && not (traitsOf c .quiet)) PageWaiting
-    ∷ when (badRecord c r) BadRecord
+    ∷ when (badRecord c i) BadRecord
     ∷ when (isLoad c && started (k .state .sheet)) PageStarted
-    ∷ checked (checkOf (k .state .fixed .length) c r)
-    ∷ when (traitsOf c .replies && ltb (length reply) senseSize) TooShort
+    ∷ checked (checkOf (k .state) c i)
+    ∷ when (traitsOf c .replies && ltb (length (i .reply)) senseSize) TooShort
     ∷ when (ltb 1 (movement k c .pages)) TwoPages
     ∷ []
 
@@ -83,7 +85,7 @@ abbrev pub releaseTests : Core → List (Option Refusal)
 releaseTests k = when (not (coreOk k)) BadStore ∷ when (not (k .state .sheet .waiting)) NoPage ∷ []
 
 abbrev pub testsOf : Core → Call → List (Option Refusal)
-testsOf k (command b r reply) = commandTests k (decode b) r reply
+testsOf k (command i) = commandTests k (decode (i .byte)) i
 testsOf k (compose n out) = composeTests k n out
 testsOf k release = releaseTests k
 
@@ -109,7 +111,7 @@ doCompose k n =
     record {
       answer = record { refusal = Accepted; status = 0; ready = false; lines = 0; copy = c .number; mark = c .mark };
       core = k;
-      sense = keep;
+      sense = Keep;
       front = λ s. c .cells;
     }
 
@@ -121,17 +123,17 @@ unfoldable pub released : Core → Core
 released k = cond (k .state .sheet .due) (reset (emptied k)) (emptied k)
 
 unfoldable pub doRelease : Core → Effect
-doRelease k = record { answer = only Accepted 0; core = released k; sense = keep; front = nothing }
+doRelease k = record { answer = only Accepted 0; core = released k; sense = Keep; front = nothing }
 
 -- Calls: each accepted one.
 unfoldable pub perform : Core → Call → Effect
-perform k (command b r reply) = doCommand k (decode b) r
+perform k (command i) = doCommand k (decode (i .byte)) i
 perform k (compose n out) = doCompose k n
 perform k release = doRelease k
 
 -- Form and forms control: the byte count that the sum's load check shows.
 abbrev pub sizeOf : Call → ℕ
-sizeOf (command b r reply) = length r
+sizeOf (command i) = length (i .sent)
 sizeOf (compose n out) = 0
 sizeOf release = 0
 
@@ -141,7 +143,7 @@ effect k c = let x = refusalOf k c in cond (isAccepted x) (perform k c) (refused
 
 -- Calls: the buffer that a call is lent to write, and bytes put over its front, those after them kept.
 abbrev pub lent : Call → List ℕ
-lent (command b r reply) = reply
+lent (command i) = i .reply
 lent (compose n out) = out
 lent release = []
 

@@ -1,5 +1,5 @@
 -- Document 01, "Commands". The load codes are those of the manual's command set table (GA26-1635-2). Every definition here is of that
--- section.
+-- section, except the first.
 use Prim.Native.Nat.{ℕ, _/_, _%_}
 use mathlib.Core.Bool.{Bool, true, false, cond, _&&_}
 use mathlib.Core.List.{List, [], _∷_}
@@ -10,6 +10,15 @@ use Rattle.calls.specs.declared.Control.{Control}
 use Rattle.calls.specs.declared.Control.the-variants.{NoOp, SenseIo, Initialize, Clear, Block, Allow, Select}
 use Rattle.calls.specs.declared.Command.{Command}
 use Rattle.calls.specs.declared.Command.the-variants.{Write, Move, Controls, Loads, Unlisted}
+
+-- Calls: a command as it is issued: its byte, its record, and the buffer for its reply.
+pub record Issued : Type 0 where
+  pub byte : ℕ
+  pub sent : List ℕ
+  pub reply : List ℕ
+
+abbrev pub issued : ℕ → List ℕ → List ℕ → Issued
+issued b r reply = record { byte = b; sent = r; reply = reply }
 
 -- The bytes that are listed one by one: writes, immediate spaces, the controls, the five loads.
 unfoldable pub codes : List (ℕ × Command)

@@ -11,7 +11,8 @@ use Rattle.line.specs.Line.{slotsInRange}
 use Rattle.copies.specs.Copies.{sequenceCheck, sequenceNow, copiesInRange}
 use Rattle.legends.specs.Legends.{legendsOk}
 use Rattle.calls.specs.declared.Sheet.{Sheet}
-use Rattle.calls.specs.Core.{State, Core, sizesOk, P}
+use Rattle.calls.specs.declared.State.{State}
+use Rattle.calls.specs.Core.{Core, sizesOk, P}
 
 -- Ranges of the fields: form and pitches are such as Start takes, the current line is one of the P.
 unfoldable pub lineOk : ℕ → Sheet → Bool

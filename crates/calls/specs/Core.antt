@@ -14,6 +14,7 @@ use Rattle.line.specs.declared.Slots.{Slots}
 use Rattle.copies.specs.declared.Copies.{Copies}
 use Rattle.calls.specs.declared.Fixed.{Fixed}
 use Rattle.calls.specs.declared.Sheet.{Sheet}
+use Rattle.calls.specs.declared.State.{State}
 
 -- Calls: the lent stores, and their sizes.
 pub record Stores : Type 0 where
@@ -26,15 +27,6 @@ storesOf page legends tables = record { page = page; legends = legends; tables =
 
 unfoldable pub sizesOk : Stores → Bool
 sizesOk m = every (eqb (length (m .page)) pageSize ∷ eqb (length (m .legends)) legendSize ∷ eqb (length (m .tables)) tableSize ∷ [])
-
--- All that a printer holds but its sense.
-pub record State : Type 0 where
-  pub fixed : Fixed
-  pub blocked : Bool
-  pub forms : Forms
-  pub slots : Slots
-  pub copies : Copies
-  pub sheet : Sheet
 
 -- Calls: all but the sense, and all. No call but Sense reads the sense, so that what a call does is a function of the core.
 pub record Core : Type 0 where

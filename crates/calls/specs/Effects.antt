@@ -8,10 +8,12 @@ use Rattle.seq.specs.Words.{bit}
 use Rattle.numbers.specs.Sizes.{slotSize}
 use Rattle.numbers.specs.declared.Sense.{Sense}
 use Rattle.numbers.specs.declared.Answer.{Answer}
+use Rattle.numbers.specs.declared.SenseStep.{SenseStep}
+use Rattle.numbers.specs.declared.SenseStep.the-variants.{Keep, Anew}
 use Rattle.numbers.specs.declared.Checked.{Checked}
 use Rattle.numbers.specs.declared.Refusal.{Refusal}
 use Rattle.numbers.specs.declared.Refusal.the-variants.{Accepted, NotListed}
-use Rattle.numbers.specs.Numbers.{SenseStep, keep, anew, sense3, noSense, rowOf, only}
+use Rattle.numbers.specs.Numbers.{sense3, noSense, rowOf, only}
 use Rattle.movement.specs.declared.Motion.{Motion}
 use Rattle.movement.specs.declared.Moved.{Moved}
 use Rattle.form.specs.Form.{fcbCheck, formsOf}
@@ -28,7 +30,9 @@ use Rattle.calls.specs.declared.Control.{Control}
 use Rattle.calls.specs.declared.Control.the-variants.{NoOp, SenseIo, Initialize, Clear, Block, Allow, Select}
 use Rattle.calls.specs.declared.Command.{Command}
 use Rattle.calls.specs.declared.Command.the-variants.{Write, Move, Controls, Loads, Unlisted}
-use Rattle.calls.specs.Core.{State, Core, withState, withPage, withLegends, withTables, withBlocked, withForms, withSlots, withCopies, withSheet, linesNow, started}
+use Rattle.calls.specs.declared.State.{State}
+use Rattle.calls.specs.Core.{Core, withState, withPage, withLegends, withTables, withBlocked, withForms, withSlots, withCopies, withSheet, linesNow, started}
+use Rattle.calls.specs.Commands.{Issued}
 use Rattle.calls.specs.Reset.{reset, senseBytes}
 
 -- Calls: what a call answers and does: to the core, to the sense, and to the front of its lent buffer (Sense's reply, Compose's output).
@@ -63,7 +67,7 @@ done k c m =
             mark = 0;
           };
       core = k;
-      sense = anew (sense3 (bit check 0x08 + bit (m .nine) 0x01) b1 0);
+      sense = Anew (sense3 (bit check 0x08 + bit (m .nine) 0x01) b1 0);
       front = nothing;
     }
 
@@ -105,12 +109,12 @@ doWrite k m r =
     done (movedCore false (written k r) mv) (orUnmatched (writeCauses k r) (mv .missed)) mv
 
 -- Form and forms control, Copies and legends: the five loads: what each one's check finds, what it leaves, and its causes.
-unfoldable pub loadCheck : ℕ → Load → List ℕ → Checked
-loadCheck len Fcb r = fcbCheck len r
-loadCheck len TranslateTable r = tableCheck r
-loadCheck len CopyModification r = legendCheck r
-loadCheck len OverlaySequence r = sequenceCheck r
-loadCheck len CopyNumber r = numberCheck r
+unfoldable pub loadCheck : State → Load → List ℕ → Checked
+loadCheck s Fcb r = fcbCheck (s .fixed .length) r
+loadCheck s TranslateTable r = tableCheck r
+loadCheck s CopyModification r = legendCheck r
+loadCheck s OverlaySequence r = sequenceCheck r
+loadCheck s CopyNumber r = numberCheck r
 
 -- Form and forms control: an FCB load puts the form at line 1.
 unfoldable pub atLine1 : Sheet → Sheet
@@ -160,8 +164,8 @@ abbrev pub quietly : Core → SenseStep → (Sense → List ℕ) → Effect
 quietly k s f = record { answer = only Accepted (rowOf 0 Accepted .status); core = k; sense = s; front = f }
 
 unfoldable pub doControl : Core → Control → Effect
-doControl k NoOp = quietly k keep nothing
-doControl k SenseIo = quietly k (anew noSense) (senseBytes (k .state))
+doControl k NoOp = quietly k Keep nothing
+doControl k SenseIo = quietly k (Anew noSense) (senseBytes (k .state))
 doControl k Initialize = completing k true (reset k)
 doControl k Clear = completing k false k
 doControl k Block = done (withState k (withBlocked (k .state) true)) noCauses (standing k)
@@ -169,9 +173,9 @@ doControl k Allow = done (withState k (withBlocked (k .state) false)) noCauses (
 doControl k (Select n) = done (withState k (withSlots (k .state) (slotSelected (k .state .slots) n))) noCauses (standing k)
 
 -- Commands: each accepted one. A byte that is none is refused before it comes here, with this same effect.
-unfoldable pub doCommand : Core → Command → List ℕ → Effect
-doCommand k (Write m) r = doWrite k m r
-doCommand k (Move m) r = doMove k m
-doCommand k (Controls c) r = doControl k c
-doCommand k (Loads l) r = doLoad k l r
-doCommand k Unlisted r = refused k (length r) NotListed
+unfoldable pub doCommand : Core → Command → Issued → Effect
+doCommand k (Write m) i = doWrite k m (i .sent)
+doCommand k (Move m) i = doMove k m
+doCommand k (Controls c) i = doControl k c
+doCommand k (Loads l) i = doLoad k l (i .sent)
+doCommand k Unlisted i = refused k (length (i .sent)) NotListed

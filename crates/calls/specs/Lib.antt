@@ -5,4 +5,5 @@ pub mod Reset
 pub mod Effects
 pub mod Calls
 pub mod Start
+pub mod Premises
 pub mod Lists

@@ -19,7 +19,7 @@ worldAfter w (c ∷ cs) = worldAfter (step w c .world) cs
 
 -- Demand 3: what counts are accepted commands, but not No-Op and Sense, and accepted releases.
 unfoldable pub counts : Core → Call → Bool
-counts k (command b r reply) = every (isAccepted (refusalOf k (command b r reply)) ∷ not (traitsOf (decode b) .quiet) ∷ [])
+counts k (command i) = every (isAccepted (refusalOf k (command i)) ∷ not (traitsOf (decode (i .byte)) .quiet) ∷ [])
 counts k (compose n out) = false
 counts k release = isAccepted (refusalOf k release)
 
@@ -36,14 +36,13 @@ readOf (Loads l) r = r
 readOf Unlisted r = []
 
 unfoldable pub deedOf : Call → Deed
-deedOf (command b r reply) = commanded b (readOf (decode b) r)
+deedOf (command i) = commanded (i .byte) (readOf (decode (i .byte)) (i .sent))
 deedOf (compose n out) = wasReleased
 deedOf release = wasReleased
 
 -- Demand 3: what finishes a reset: Initialize on a page not started, or the Release that does a reset which is due.
 unfoldable pub finishesReset : Core → Call → Bool
-finishesReset k (command b r reply) =
-    every (counts k (command b r reply) ∷ traitsOf (decode b) .resets ∷ not (started (k .state .sheet)) ∷ [])
+finishesReset k (command i) = every (counts k (command i) ∷ traitsOf (decode (i .byte)) .resets ∷ not (started (k .state .sheet)) ∷ [])
 finishesReset k (compose n out) = false
 finishesReset k release = every (counts k release ∷ k .state .sheet .due ∷ [])
 

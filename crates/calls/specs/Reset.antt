@@ -11,7 +11,8 @@ use Rattle.copies.specs.Copies.{startCopies}
 use Rattle.legends.specs.Legends.{noLegends}
 use Rattle.calls.specs.declared.Fixed.{Fixed}
 use Rattle.calls.specs.declared.Sheet.{Sheet}
-use Rattle.calls.specs.Core.{State, Stores, Core, started}
+use Rattle.calls.specs.declared.State.{State}
+use Rattle.calls.specs.Core.{Stores, Core, started}
 
 -- A sheet with nothing written and nothing waiting, and a page with nothing on it.
 unfoldable pub blankSheet : ℕ → Sheet
@@ -36,7 +37,7 @@ reset k = record { state = resetState (k .state .fixed) (k .state .blocked); sto
 unfoldable pub fresh : Fixed → Bool → Core
 fresh f blocked = record { state = resetState f blocked; stores = resetStores noCells }
 
--- The 24 bytes that Sense replies: five that are kept, byte 3 as the printer stands, and zeros.
+-- Byte 3 tells how the printer stands; Sense replies it, the five bytes that are kept, and zeros: `senseSize` bytes in all.
 unfoldable pub byte3 : State → ℕ
 byte3 s = 0x80 + bit (not (started (s .sheet)) && not (s .sheet .waiting)) 0x40 + bit (s .blocked) 0x20
 

@@ -7,26 +7,39 @@ use lib.ListN.{replicate}
 use Rattle.seq.specs.Words.{when, firstOr, zeros}
 use Rattle.numbers.specs.declared.Refusal.{Refusal}
 use Rattle.numbers.specs.declared.Refusal.the-variants.{Accepted, BadStore, BadForm}
-use Rattle.numbers.specs.Numbers.{noSense, isAccepted, only}
+use Rattle.numbers.specs.Numbers.{noSense, rowOf, isAccepted, only}
 use Rattle.form.specs.Form.{formOk, fcbSize}
 use Rattle.copies.specs.Copies.{pairSize}
-use Rattle.calls.specs.Core.{State, Stores, sizesOk, World}
+use Rattle.calls.specs.declared.Fixed.{Fixed}
+use Rattle.calls.specs.declared.State.{State}
+use Rattle.calls.specs.Core.{Stores, sizesOk, World}
 use Rattle.calls.specs.Reset.{fresh}
 use Rattle.calls.specs.Calls.{Outcome}
 
--- Numbers: the order of Start is 9, by sizes alone, then 10. Form length and pitches are the numbers as they were passed.
-abbrev pub startTests : ℕ → List ℕ → Stores → List (Option Refusal)
-startTests len ps m =
+-- Calls: what Start is asked for, the numbers as they were passed; and what it fixes.
+pub record Asked : Type 0 where
+  pub length : ℕ
+  pub pitches : List ℕ
+
+abbrev pub asked : ℕ → List ℕ → Asked
+asked len ps = record { length = len; pitches = ps }
+
+abbrev pub fixedBy : Asked → Fixed
+fixedBy a = record { length = a .length; pitches = a .pitches }
+
+-- Numbers: the order of Start is 9, by sizes alone, then 10.
+abbrev pub startTests : Asked → Stores → List (Option Refusal)
+startTests a m =
     when (not (sizesOk m)) BadStore
-    ∷ when (not (formOk len ps)) BadForm
+    ∷ when (not (formOk (a .length) (a .pitches))) BadForm
     ∷ []
 
-unfoldable pub startRefusal : ℕ → List ℕ → Stores → Refusal
-startRefusal len ps m = firstOr Accepted (startTests len ps m)
+unfoldable pub startRefusal : Asked → Stores → Refusal
+startRefusal a m = firstOr Accepted (startTests a m)
 
 -- Calls, Reset and sense: what an accepted Start leaves: all as a reset leaves it, the page empty, the checks allowed, the sense clear.
-unfoldable pub startWorld : ℕ → List ℕ → World
-startWorld len ps = record { core = fresh (record { length = len; pitches = ps }) false; sense = noSense }
+unfoldable pub startWorld : Asked → World
+startWorld a = record { core = fresh (fixedBy a) false; sense = noSense }
 
 -- Numbers: what a refused Start hands back: a state of all zeros, beside the stores as they were.
 unfoldable pub noState : State
@@ -43,8 +56,10 @@ noState =
 unfoldable pub noPrinter : Stores → World
 noPrinter m = record { core = record { state = noState; stores = m }; sense = noSense }
 
--- Calls: Start, with status 00, accepted or not.
-unfoldable pub startOutcome : ℕ → List ℕ → Stores → Outcome
-startOutcome len ps m =
-    let x = startRefusal len ps m in
-    record { answer = only x 0; buffer = []; world = cond (isAccepted x) (startWorld len ps) (noPrinter m) }
+-- Calls: Start. Accepted it gives status 00, refused that of its number.
+unfoldable pub startOutcome : Asked → Stores → Outcome
+startOutcome a m =
+    let x = startRefusal a m in
+    cond (isAccepted x)
+    (record { answer = only Accepted 0; buffer = []; world = startWorld a })
+    (record { answer = only x (rowOf 0 x .status); buffer = []; world = noPrinter m })

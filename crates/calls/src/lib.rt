@@ -1,18 +1,11 @@
 // Document 01, "Calls", "Commands", "Reset and sense": what a printer holds, and what it is told to do.
+use copies::Copies;
+use form::Forms;
+use line::Slots;
 use movement::Motion;
+use numbers::Stores;
 ghost use mathlib.Core.Path.{_≡_};
 ghost use Rattle.calls.specs.Core.{storesOf, sizesOk, started};
-
-// The sizes of the lent stores, of Sense's reply, and of a line.
-pub const PAGE_BYTES: usize = 26928;
-
-pub const LEGEND_BYTES: usize = 8192;
-
-pub const TABLE_BYTES: usize = 1024;
-
-pub const SENSE_BYTES: usize = 24;
-
-pub const LINE_CELLS: usize = 204;
 
 // What Start fixes: the form length in 24ths of an inch, and the pitch of each module, 0 if it is not fitted.
 pub struct Fixed {
@@ -27,6 +20,16 @@ pub struct Sheet {
     pub written: bool,
     pub waiting: bool,
     pub due: bool,
+}
+
+// The printer's state, except its sense.
+pub struct State {
+    pub fixed: Fixed,
+    pub blocked: bool,
+    pub forms: Forms,
+    pub slots: Slots,
+    pub copies: Copies,
+    pub sheet: Sheet,
 }
 
 // A command byte, decoded. Write is write and space or skip, Move the immediate form of both.
@@ -59,7 +62,8 @@ pub enum Load {
 pub fn sizes_ok(page: &[u8], legends: &[u8], tables: &[u8]) -> bool
     ensures { λ r. ⌜ r ≡ sizesOk (storesOf (now (page .entry)) (now (legends .entry)) (now (tables .entry))) ⌝ }
 {
-    (page.len() == PAGE_BYTES) & ((legends.len() == LEGEND_BYTES) & (tables.len() == TABLE_BYTES))
+    (page.len() == Stores::PAGE_BYTES)
+        & ((legends.len() == Stores::LEGEND_BYTES) & (tables.len() == Stores::TABLE_BYTES))
 }
 
 pub fn is_started(sheet: Sheet) -> bool

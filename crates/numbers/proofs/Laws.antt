@@ -58,29 +58,34 @@ pub record Facts (n m : ℕ) (x : Refusal) : Type 0 where
   pub zero : isAccepted x ≡ true → x ≡ Accepted
   pub anew : isAnew (rowOf n x .sense) ≡ tells x
   pub check : eqb (rowOf n x .status) 0x0E ≡ tells x
+  -- the others keep it, except a refused Start, which leaves none
+  pub keeps : tells x ≡ false → eqb (numberOf x) 10 ≡ false → rowOf n x .sense ≡ Keep
   -- the number is the same for all records, and so is the row, but for a load check, whose sense can show the record's byte count
   pub same : ((c : Cause) → x ≡ LoadCheck c → n ≡ m) → rowOf n x ≡ rowOf m x
 
 facts : (n m : ℕ) (x : Refusal) → Facts n m x
 unfolding rowOf isAccepted
-facts n m Accepted = record { zero = λ e. refl; anew = refl; check = refl; same = λ h. refl }
-facts n m NotListed = record { zero = λ e. absurd (false≢true e); anew = refl; check = refl; same = λ h. refl }
-facts n m BadRecord = record { zero = λ e. absurd (false≢true e); anew = refl; check = refl; same = λ h. refl }
-facts n m (LoadCheck c) = record { zero = λ e. absurd (false≢true e); anew = refl; check = refl; same = λ h. rw (h c refl) }
-facts n m PageWaiting = record { zero = λ e. absurd (false≢true e); anew = refl; check = refl; same = λ h. refl }
-facts n m PageStarted = record { zero = λ e. absurd (false≢true e); anew = refl; check = refl; same = λ h. refl }
-facts n m NoPage = record { zero = λ e. absurd (false≢true e); anew = refl; check = refl; same = λ h. refl }
-facts n m BadIndex = record { zero = λ e. absurd (false≢true e); anew = refl; check = refl; same = λ h. refl }
-facts n m TooShort = record { zero = λ e. absurd (false≢true e); anew = refl; check = refl; same = λ h. refl }
-facts n m BadStore = record { zero = λ e. absurd (false≢true e); anew = refl; check = refl; same = λ h. refl }
-facts n m BadForm = record { zero = λ e. absurd (false≢true e); anew = refl; check = refl; same = λ h. refl }
-facts n m TwoPages = record { zero = λ e. absurd (false≢true e); anew = refl; check = refl; same = λ h. refl }
+facts n m Accepted = record { zero = λ e. refl; anew = refl; check = refl; keeps = λ t f. refl; same = λ h. refl }
+facts n m NotListed = record { zero = λ e. absurd (false≢true e); anew = refl; check = refl; keeps = λ t f. absurd (true≢false t); same = λ h. refl }
+facts n m BadRecord = record { zero = λ e. absurd (false≢true e); anew = refl; check = refl; keeps = λ t f. refl; same = λ h. refl }
+facts n m (LoadCheck c) = record { zero = λ e. absurd (false≢true e); anew = refl; check = refl; keeps = λ t f. absurd (true≢false t); same = λ h. rw (h c refl) }
+facts n m PageWaiting = record { zero = λ e. absurd (false≢true e); anew = refl; check = refl; keeps = λ t f. refl; same = λ h. refl }
+facts n m PageStarted = record { zero = λ e. absurd (false≢true e); anew = refl; check = refl; keeps = λ t f. absurd (true≢false t); same = λ h. refl }
+facts n m NoPage = record { zero = λ e. absurd (false≢true e); anew = refl; check = refl; keeps = λ t f. refl; same = λ h. refl }
+facts n m BadIndex = record { zero = λ e. absurd (false≢true e); anew = refl; check = refl; keeps = λ t f. refl; same = λ h. refl }
+facts n m TooShort = record { zero = λ e. absurd (false≢true e); anew = refl; check = refl; keeps = λ t f. refl; same = λ h. refl }
+facts n m BadStore = record { zero = λ e. absurd (false≢true e); anew = refl; check = refl; keeps = λ t f. refl; same = λ h. refl }
+facts n m BadForm = record { zero = λ e. absurd (false≢true e); anew = refl; check = refl; keeps = λ t f. absurd (true≢false f); same = λ h. refl }
+facts n m TwoPages = record { zero = λ e. absurd (false≢true e); anew = refl; check = refl; keeps = λ t f. refl; same = λ h. refl }
 
 pub accepted-is : (x : Refusal) → isAccepted x ≡ true → x ≡ Accepted
 accepted-is x = facts 0 0 x .zero
 
 pub row-same : (n m : ℕ) (x : Refusal) → ((c : Cause) → x ≡ LoadCheck c → n ≡ m) → rowOf n x ≡ rowOf m x
 row-same n m x = facts n m x .same
+
+pub sense-kept : (n : ℕ) (x : Refusal) → tells x ≡ false → eqb (numberOf x) 10 ≡ false → rowOf n x .sense ≡ Keep
+sense-kept n x = facts n n x .keeps
 
 pub anew-exactly : (n : ℕ) (x : Refusal) → isAnew (rowOf n x .sense) ≡ tells x
 anew-exactly n x = facts n n x .anew
