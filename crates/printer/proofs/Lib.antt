@@ -1,2 +1,1 @@
 mod Outcomes
-mod Kept

@@ -1,1 +1,3 @@
-pub mod Whole
+pub mod Layout
+pub mod Worlds
+pub mod Premises

@@ -6,30 +6,30 @@ use numbers::Answer;
 use numbers::Refusal;
 use numbers::Sense;
 ghost use mathlib.Core.Path.{_≡_};
-ghost use mathlib.Core.Bool.{true};
 ghost use mathlib.Core.List.{List};
 ghost use Prim.Native.Nat.{ℕ, _≤_};
 ghost use lib.ListN.{length};
-ghost use Rattle.form.specs.Form.{formOk};
-ghost use Rattle.line.specs.Line.{noCauses};
-ghost use Rattle.calls.specs.declared.Control.the-variants.{NoOp, SenseIo, Initialize, Clear, Select};
-ghost use Rattle.calls.specs.Core.{withState, withBlocked};
+ghost use Rattle.numbers.specs.Sizes.{senseSize};
+ghost use Rattle.calls.specs.declared.Control.the-variants.{NoOp, SenseIo, Initialize, Clear, Block, Allow, Select};
+ghost use Rattle.calls.specs.Core.{Stores, storesOf};
 ghost use Rattle.calls.specs.Reset.{reset, byte3, senseBytes};
-ghost use Rattle.calls.specs.Effects.{done, standing, doControl};
+ghost use Rattle.calls.specs.Effects.{doControl};
 ghost use Rattle.calls.specs.Calls.{outcomeOf};
-ghost use Rattle.printer.specs.Whole.{Lent, lentOf, stateOf, coreOf, outcome, Did};
+ghost use Rattle.printer.specs.Worlds.{coreOf, outcome, Did};
+ghost use Rattle.printer.specs.Premises.{Resets};
 
 impl Printer {
     fn byte3(self) -> u8
-        ensures { λ r. ⌜ ((k : List ℕ) → r ≡ byte3 (stateOf self k)) ⌝ }
+        ensures { λ r. ⌜ r ≡ byte3 (self .state) ⌝ }
     {
-        let sheet = self.sheet;
+        let state = self.state;
+        let sheet = state.sheet;
         let idle = !calls::is_started(sheet) & !sheet.waiting;
-        0x80 + seq::flag(idle, 0x40) + seq::flag(self.blocked, 0x20)
+        0x80 + seq::flag(idle, 0x40) + seq::flag(state.blocked, 0x20)
     }
 
-    fn sense_bytes(self) -> [u8; 24]
-        ensures { λ r. ⌜ ((k : List ℕ) → r ≡ senseBytes (stateOf self k) (self .sense)) ⌝ }
+    fn sense_bytes(self) -> [u8; Printer::SENSE_BYTES]
+        ensures { λ r. ⌜ r ≡ senseBytes (self .state) (self .sense) ⌝ }
     {
         let b3 = self.byte3();
         let sense = self.sense;
@@ -62,87 +62,86 @@ impl Printer {
     }
 
     // Accepted, with status 0C alone and the sense left as it is.
-    pub fn quietly(self) -> Step
-        ensures { λ r. ⌜ ((l : Lent) → Did self l r l (λ k. doControl k NoOp)) ⌝ }
+    pub fn no_op(mut self) -> Step
+        ensures { λ r. ⌜ ((m : Stores) → Did self m r m (λ k. doControl k NoOp)) ⌝ }
     {
         Step {
             printer: self,
-            answer: Answer {
-                refusal: Refusal::Accepted,
-                status: 0x0C,
-                ready: false,
-                lines: 0,
-                copy: 0,
-                mark: 0,
-            },
+            answer: Answer::only(Refusal::Accepted, 0x0C),
         }
     }
 
     // Replies the sense, then clears it.
     pub fn sense_io(mut self, reply: &mut [u8]) -> Step
-        requires { ⌜ 24 ≤ length (now reply) ⌝ }
-        ensures { λ r. ⌜ ((l : Lent) → outcome r (now (reply .exit)) l
-            ≡ outcomeOf (self .sense) (now (reply .entry)) (doControl (coreOf self l) SenseIo)) ⌝ }
+        requires { ⌜ senseSize ≤ length (now reply) ⌝ }
+        ensures { λ r. ⌜ ((m : Stores) → outcome r (now (reply .exit)) m
+            ≡ outcomeOf (self .sense) (now (reply .entry)) (doControl (coreOf self m) SenseIo)) ⌝ }
     {
         let bytes = self.sense_bytes();
-        seq::copy_all(&mut reply[0..24], &bytes);
+        seq::copy_all(&mut reply[0..Printer::SENSE_BYTES], &bytes);
         let sense = Sense::CLEAR;
         self.sense = sense;
-        self.quietly()
+        self.no_op()
     }
 
     // All but the page and the check switch as Start leaves it.
-    pub(crate) fn reset(self, kept: &mut [u8], legends: &mut [u8], tables: &mut [u8]) -> Printer
-        requires { ⌜ formOk (self .fixed .length) (self .fixed .pitches) ≡ true ⌝ }
-        requires { ⌜ length (now kept) ≡ 160 ⌝ }
-        requires { ⌜ length (now legends) ≡ 8192 ⌝ }
-        requires { ⌜ length (now tables) ≡ 1024 ⌝ }
-        ensures { λ r. ⌜ ((p : List ℕ) → coreOf r (lentOf (now (kept .exit)) p (now (legends .exit)) (now (tables .exit)))
-            ≡ reset (coreOf self (lentOf (now (kept .entry)) p (now (legends .entry)) (now (tables .entry))))) ⌝ }
-        ensures { λ r. ⌜ r .sense ≡ self .sense ⌝ }
+    pub(crate) fn reset(mut self, legends: &mut [u8], tables: &mut [u8]) -> Printer
+        requires { ⌜ Resets (self .state) (now legends) (now tables) ⌝ }
+        ensures core { λ r. ⌜ ((p : List ℕ) → coreOf r (storesOf p (now (legends .exit)) (now (tables .exit)))
+            ≡ reset (coreOf self (storesOf p (now (legends .entry)) (now (tables .entry))))) ⌝ }
+        ensures sense { λ r. ⌜ r .sense ≡ self .sense ⌝ }
     {
         seq::fill(legends, 0);
         line::tables::start_tables(tables);
-        Printer::start_state(self.fixed, self.blocked, self.sense, kept)
+        let before = self.state;
+        let state = Printer::start_state(before.fixed, before.blocked);
+        self.state = state;
+        self
     }
 
-    pub fn initialize(self, kept: &mut [u8], legends: &mut [u8], tables: &mut [u8]) -> Step
-        requires { ⌜ formOk (self .fixed .length) (self .fixed .pitches) ≡ true ⌝ }
-        requires { ⌜ length (now kept) ≡ 160 ⌝ }
-        requires { ⌜ length (now legends) ≡ 8192 ⌝ }
-        requires { ⌜ length (now tables) ≡ 1024 ⌝ }
-        ensures { λ r. ⌜ ((p : List ℕ) → Did self (lentOf (now (kept .entry)) p (now (legends .entry)) (now (tables .entry))) r
-            (lentOf (now (kept .exit)) p (now (legends .exit)) (now (tables .exit))) (λ k. doControl k Initialize)) ⌝ }
+    pub fn initialize(mut self, legends: &mut [u8], tables: &mut [u8]) -> Step
+        requires { ⌜ Resets (self .state) (now legends) (now tables) ⌝ }
+        ensures { λ r. ⌜ ((p : List ℕ) → Did self (storesOf p (now (legends .entry)) (now (tables .entry))) r
+            (storesOf p (now (legends .exit)) (now (tables .exit))) (λ k. doControl k Initialize)) ⌝ }
     {
-        if calls::is_started(self.sheet) {
+        if calls::is_started(self.state.sheet) {
             return self.complete(true);
         }
-        let fresh = self.reset(kept, legends, tables);
+        let fresh = self.reset(legends, tables);
         fresh.stand(Causes::NONE)
     }
 
-    pub fn clear(self) -> Step
-        ensures { λ r. ⌜ ((l : Lent) → Did self l r l (λ k. doControl k Clear)) ⌝ }
+    pub fn clear(mut self) -> Step
+        ensures { λ r. ⌜ ((m : Stores) → Did self m r m (λ k. doControl k Clear)) ⌝ }
     {
-        if !calls::is_started(self.sheet) {
+        if !calls::is_started(self.state.sheet) {
             return self.stand(Causes::NONE);
         }
         self.complete(false)
     }
 
-    pub fn block(mut self, blocked: bool) -> Step
-        ensures { λ r. ⌜ ((l : Lent) → Did self l r l (λ k. done (withState k (withBlocked (k .state) blocked)) noCauses (standing k))) ⌝ }
+    pub fn block(mut self) -> Step
+        ensures { λ r. ⌜ ((m : Stores) → Did self m r m (λ k. doControl k Block)) ⌝ }
     {
-        self.blocked = blocked;
+        self.state.blocked = true;
+        self.stand(Causes::NONE)
+    }
+
+    pub fn allow(mut self) -> Step
+        ensures { λ r. ⌜ ((m : Stores) → Did self m r m (λ k. doControl k Allow)) ⌝ }
+    {
+        self.state.blocked = false;
         self.stand(Causes::NONE)
     }
 
     pub fn select(mut self, slot: u8) -> Step
-        ensures { λ r. ⌜ ((l : Lent) → Did self l r l (λ k. doControl k (Select slot))) ⌝ }
+        ensures { λ r. ⌜ ((m : Stores) → Did self m r m (λ k. doControl k (Select slot))) ⌝ }
     {
-        let mut slots = self.slots;
+        let mut state = self.state;
+        let mut slots = state.slots;
         slots.selected = slot;
-        self.slots = slots;
+        state.slots = slots;
+        self.state = state;
         self.stand(Causes::NONE)
     }
 }

@@ -1,5 +1,5 @@
-// What accepted commands do, a method each: document 01, "Movement", "Writing a line", "Copies and legends", "Reset and sense". Each takes the
-// lent bytes that it may change or reads, and answers for any others.
+// What a refused command tells, and what writes and immediate commands do: document 01, "Numbers", "Movement", "Writing a line". Each method takes the
+// stores that it reads or changes, and answers for any others.
 use crate::Printer;
 use crate::Step;
 use calls::Sheet;
@@ -11,14 +11,14 @@ use numbers::Answer;
 use numbers::Refusal;
 ghost use mathlib.Core.Path.{_≡_};
 ghost use mathlib.Core.List.{List};
-ghost use Prim.Native.Nat.{ℕ, _≤_};
-ghost use lib.ListN.{length};
+ghost use Prim.Native.Nat.{ℕ};
 ghost use Rattle.movement.specs.Movement.{toTop};
 ghost use Rattle.line.specs.Line.{noCauses};
-ghost use Rattle.calls.specs.Core.{Stores};
+ghost use Rattle.calls.specs.Core.{Stores, storesOf};
 ghost use Rattle.calls.specs.Reset.{blankSheet};
 ghost use Rattle.calls.specs.Effects.{refused, done, movedSheet, movedCore, moveOf, marked, doMove, doWrite, standing};
-ghost use Rattle.printer.specs.Whole.{Lent, lentWith, lentOf, stateOf, Ready, Did};
+ghost use Rattle.printer.specs.Worlds.{Did};
+ghost use Rattle.printer.specs.Premises.{Fit, Writes};
 
 fn moved_sheet(due: bool, sheet: Sheet, moved: Moved) -> Sheet
     ensures { λ r. ⌜ r ≡ movedSheet due sheet moved ⌝ }
@@ -39,7 +39,7 @@ fn moved_sheet(due: bool, sheet: Sheet, moved: Moved) -> Sheet
     }
 }
 
-pub(crate) fn blank(line: u8) -> Sheet
+pub(crate) fn blank_sheet(line: u8) -> Sheet
     ensures { λ r. ⌜ r ≡ blankSheet line ⌝ }
 {
     Sheet {
@@ -50,7 +50,7 @@ pub(crate) fn blank(line: u8) -> Sheet
     }
 }
 
-fn mark(sheet: Sheet) -> Sheet
+fn written_sheet(sheet: Sheet) -> Sheet
     ensures { λ r. ⌜ r ≡ marked sheet ⌝ }
 {
     Sheet {
@@ -63,28 +63,23 @@ fn mark(sheet: Sheet) -> Sheet
 
 impl Printer {
     pub fn refuse(mut self, refusal: Refusal, count: u16) -> Step
-        ensures { λ r. ⌜ ((l : Lent) → Did self l r l (λ k. refused k count refusal)) ⌝ }
+        ensures { λ r. ⌜ ((m : Stores) → Did self m r m (λ k. refused k count refusal)) ⌝ }
     {
-        let sense = refusal.sense(self.sense, count);
+        let row = refusal.row(count);
+        let step = row.sense;
+        let sense = self.sense.after(step);
         self.sense = sense;
         Step {
             printer: self,
-            answer: Answer {
-                refusal: refusal,
-                status: refusal.status(),
-                ready: false,
-                lines: 0,
-                copy: 0,
-                mark: 0,
-            },
+            answer: Answer::only(refusal, row.status),
         }
     }
 
     // Accepted, with the sense set anew by its causes and its movement.
     fn finish(mut self, causes: Causes, moved: Moved) -> Step
-        ensures { λ r. ⌜ ((l : Lent) → Did self l r l (λ k. done k causes moved)) ⌝ }
+        ensures { λ r. ⌜ ((m : Stores) → Did self m r m (λ k. done k causes moved)) ⌝ }
     {
-        let b1 = line::cause_byte(self.blocked, causes);
+        let b1 = line::cause_byte(self.state.blocked, causes);
         let check = b1 != 0;
         let b0 = seq::flag(check, 0x08) + seq::flag(moved.nine, 0x01);
         let status = 0x0C + seq::flag(check | moved.nine, 0x02) + seq::flag(moved.twelve, 0x01);
@@ -105,12 +100,12 @@ impl Printer {
 
     // Accepted, with nothing moved.
     pub(crate) fn stand(self, causes: Causes) -> Step
-        ensures { λ r. ⌜ ((l : Lent) → Did self l r l (λ k. done k causes (standing k))) ⌝ }
+        ensures { λ r. ⌜ ((m : Stores) → Did self m r m (λ k. done k causes (standing k))) ⌝ }
     {
         let moved = Moved {
             lines: 0,
             pages: 0,
-            line: self.sheet.line,
+            line: self.state.sheet.line,
             nine: false,
             twelve: false,
             missed: false,
@@ -120,37 +115,35 @@ impl Printer {
 
     // The page is completed; its Release is to reset where `due` says so.
     pub(crate) fn complete(mut self, due: bool) -> Step
-        ensures { λ r. ⌜ ((l : Lent) → Did self l r l (λ k. done (movedCore due k toTop) noCauses toTop)) ⌝ }
+        ensures { λ r. ⌜ ((m : Stores) → Did self m r m (λ k. done (movedCore due k toTop) noCauses toTop)) ⌝ }
     {
-        let sheet = moved_sheet(due, self.sheet, Moved::TOP);
-        self.sheet = sheet;
+        let mut state = self.state;
+        let sheet = moved_sheet(due, state.sheet, Moved::TOP);
+        state.sheet = sheet;
+        self.state = state;
         self.finish(Causes::NONE, Moved::TOP)
     }
 
-    fn move_of(self, form: Layout, motion: Motion, kept: &[u8]) -> Moved
-        requires { ⌜ Ready (stateOf self (now kept)) form ⌝ }
-        requires { ⌜ length (now kept) ≡ 160 ⌝ }
-        ensures { λ r. ⌜ r ≡ moveOf (stateOf self (now (kept .entry))) motion ⌝ }
+    // A local is lent, as a field would lay the whole printer into memory.
+    fn move_of(self, form: Layout, motion: Motion) -> Moved
+        requires { ⌜ Fit (self .state) form ⌝ }
+        ensures { λ r. ⌜ r ≡ moveOf (self .state) motion ⌝ }
     {
-        movement::move_form(
-            &kept[16..160],
-            form.top,
-            form.lines,
-            self.sheet.line,
-            motion,
-        )
+        let fcb = self.state.forms.fcb;
+        movement::move_form(&fcb, form.top, form.lines, self.state.sheet.line, motion)
     }
 
     // The immediate commands.
-    pub fn move_on(mut self, form: Layout, motion: Motion, kept: &[u8]) -> Step
-        requires { ⌜ Ready (stateOf self (now kept)) form ⌝ }
-        requires { ⌜ length (now kept) ≡ 160 ⌝ }
-        ensures { λ r. ⌜ ((m : Stores) → let l = lentWith (now (kept .entry)) m in Did self l r l (λ k. doMove k motion)) ⌝ }
+    pub fn move_on(mut self, form: Layout, motion: Motion) -> Step
+        requires { ⌜ Fit (self .state) form ⌝ }
+        ensures { λ r. ⌜ ((m : Stores) → Did self m r m (λ k. doMove k motion)) ⌝ }
     {
-        let moved = self.move_of(form, motion, kept);
+        let mut state = self.state;
+        let moved = self.move_of(form, motion);
         let causes = line::or_unmatched(Causes::NONE, moved.missed);
-        let sheet = moved_sheet(false, self.sheet, moved);
-        self.sheet = sheet;
+        let sheet = moved_sheet(false, state.sheet, moved);
+        state.sheet = sheet;
+        self.state = state;
         self.finish(causes, moved)
     }
 
@@ -160,34 +153,31 @@ impl Printer {
         form: Layout,
         motion: Motion,
         sent: &[u8],
-        kept: &[u8],
         page: &mut [u8],
         tables: &[u8],
     ) -> Step
-        requires { ⌜ Ready (stateOf self (now kept)) form ⌝ }
-        requires { ⌜ length (now kept) ≡ 160 ⌝ }
-        requires { ⌜ length (now sent) ≤ 204 ⌝ }
-        requires { ⌜ length (now page) ≡ 26928 ⌝ }
-        requires { ⌜ length (now tables) ≡ 1024 ⌝ }
-        ensures { λ r. ⌜ ((l : List ℕ) → Did self (lentOf (now (kept .entry)) (now (page .entry)) l (now (tables .entry))) r
-            (lentOf (now (kept .entry)) (now (page .exit)) l (now (tables .entry))) (λ k. doWrite k motion (now (sent .entry)))) ⌝ }
+        requires { ⌜ Writes (self .state) form (now sent) (now page) (now tables) ⌝ }
+        ensures { λ r. ⌜ ((l : List ℕ) → Did self (storesOf (now (page .entry)) l (now (tables .entry))) r
+            (storesOf (now (page .exit)) l (now (tables .entry))) (λ k. doWrite k motion (now (sent .entry)))) ⌝ }
     {
-        let sheet = self.sheet;
-        let fixed = self.fixed;
+        let mut state = self.state;
+        let sheet = state.sheet;
+        let fixed = state.fixed;
         let pitches = fixed.pitches;
-        let moved = self.move_of(form, motion, kept);
         let found = line::write_line(
             page,
             sheet.line,
             sheet.written,
             sent,
             pitches,
-            self.slots,
+            state.slots,
             tables,
         );
+        let moved = self.move_of(form, motion);
         let causes = line::or_unmatched(found, moved.missed);
-        let after = moved_sheet(false, mark(sheet), moved);
-        self.sheet = after;
+        let after = moved_sheet(false, written_sheet(sheet), moved);
+        state.sheet = after;
+        self.state = state;
         self.finish(causes, moved)
     }
 }

@@ -6,39 +6,38 @@ use form::Layout;
 use numbers::Answer;
 use numbers::Refusal;
 ghost use mathlib.Core.Path.{_≡_};
-ghost use mathlib.Core.Bool.{true};
 ghost use mathlib.Core.List.{List};
-ghost use Prim.Native.Nat.{ℕ, _*_, _≤_};
-ghost use lib.ListN.{length};
-ghost use Rattle.numbers.specs.Sizes.{lineBytes};
-ghost use Rattle.form.specs.Form.{formOk};
-ghost use Rattle.legends.specs.Legends.{legendsOk};
+ghost use Prim.Native.Nat.{ℕ};
+ghost use Rattle.copies.specs.Copies.{copyMark};
+ghost use Rattle.calls.specs.Core.{storesOf};
 ghost use Rattle.calls.specs.Calls.{doCompose, doRelease, outcomeOf};
-ghost use Rattle.printer.specs.Whole.{lentOf, stateOf, coreOf, outcome, Ready, Did};
+ghost use Rattle.printer.specs.Worlds.{coreOf, outcome, Did};
+ghost use Rattle.printer.specs.Premises.{Composes, Releases};
 
 impl Printer {
+    // The overlay mark of a copy.
+    fn mark_of(self, copy: u16) -> u8
+        ensures { λ r. ⌜ r ≡ copyMark (self .state .copies) copy ⌝ }
+    {
+        let pairs = self.state.copies.pairs;
+        copies::copy_mark(&pairs, self.state.copies.count, copy)
+    }
+
     // The copy's number and mark, and its cells over the front of the output.
-    pub fn print_copy(
-        self,
+    pub fn compose(
+        mut self,
         form: Layout,
         copy: u16,
         out: &mut [u8],
-        kept: &[u8],
         page: &[u8],
         legends: &[u8],
     ) -> Step
-        requires { ⌜ Ready (stateOf self (now kept)) form ⌝ }
-        requires { ⌜ length (now kept) ≡ 160 ⌝ }
-        requires { ⌜ 1 ≤ copy ⌝ }
-        requires { ⌜ copy ≤ 255 ⌝ }
-        requires { ⌜ legendsOk (now legends) ≡ true ⌝ }
-        requires { ⌜ length (now page) ≡ 26928 ⌝ }
-        requires { ⌜ lineBytes * form .lines ≤ length (now out) ⌝ }
-        ensures { λ r. ⌜ ((t : List ℕ) → let l = lentOf (now (kept .entry)) (now (page .entry)) (now (legends .entry)) t in
-            outcome r (now (out .exit)) l ≡ outcomeOf (self .sense) (now (out .entry)) (doCompose (coreOf self l) copy)) ⌝ }
+        requires { ⌜ Composes (self .state) form copy (now out) (now page) (now legends) ⌝ }
+        ensures { λ r. ⌜ ((t : List ℕ) → let m = storesOf (now (page .entry)) (now (legends .entry)) t in
+            outcome r (now (out .exit)) m ≡ outcomeOf (self .sense) (now (out .entry)) (doCompose (coreOf self m) copy)) ⌝ }
     {
-        let number = copies::copy_number(self.reference, copy);
-        let mark = copies::copy_mark(&kept[0..16], self.pairs, copy);
+        let number = copies::copy_number(self.state.copies.reference, copy);
+        let mark = self.mark_of(copy);
         legends::compose::compose(out, page, legends, number, form.lines as u8);
         Step {
             printer: self,
@@ -54,35 +53,27 @@ impl Printer {
     }
 
     // The page is empty again, and a reset that was due is done.
-    pub fn empty_page(
-        mut self,
-        kept: &mut [u8],
-        page: &mut [u8],
-        legends: &mut [u8],
-        tables: &mut [u8],
-    ) -> Step
-        requires { ⌜ formOk (self .fixed .length) (self .fixed .pitches) ≡ true ⌝ }
-        requires { ⌜ length (now kept) ≡ 160 ⌝ }
-        requires { ⌜ length (now page) ≡ 26928 ⌝ }
-        requires { ⌜ length (now legends) ≡ 8192 ⌝ }
-        requires { ⌜ length (now tables) ≡ 1024 ⌝ }
-        ensures { λ r. ⌜ Did self (lentOf (now (kept .entry)) (now (page .entry)) (now (legends .entry)) (now (tables .entry))) r
-            (lentOf (now (kept .exit)) (now (page .exit)) (now (legends .exit)) (now (tables .exit))) doRelease ⌝ }
+    pub fn release(mut self, page: &mut [u8], legends: &mut [u8], tables: &mut [u8]) -> Step
+        requires { ⌜ Releases (self .state) (now page) (now legends) (now tables) ⌝ }
+        ensures { λ r. ⌜ Did self (storesOf (now (page .entry)) (now (legends .entry)) (now (tables .entry))) r
+            (storesOf (now (page .exit)) (now (legends .exit)) (now (tables .exit))) doRelease ⌝ }
     {
-        let sheet = self.sheet;
+        let mut state = self.state;
+        let sheet = state.sheet;
         seq::fill(page, 0);
-        let blank = moves::blank(sheet.line);
-        self.sheet = blank;
+        let blank = moves::blank_sheet(sheet.line);
+        state.sheet = blank;
+        self.state = state;
         if sheet.due {
-            let fresh = self.reset(kept, legends, tables);
+            let fresh = self.reset(legends, tables);
             return Step {
                 printer: fresh,
-                answer: Answer::DONE,
+                answer: Answer::only(Refusal::Accepted, 0),
             };
         }
         Step {
             printer: self,
-            answer: Answer::DONE,
+            answer: Answer::only(Refusal::Accepted, 0),
         }
     }
 }

@@ -1,8 +1,11 @@
-// What Start and a reset leave: the starting sequence and FCB, the starting state, and no printer.
+// What Start and a reset leave, and no printer.
 use crate::Printer;
 use crate::Step;
 use calls::Fixed;
 use calls::Sheet;
+use calls::State;
+use copies::Copies;
+use form::Forms;
 use line::Slots;
 use numbers::Answer;
 use numbers::Refusal;
@@ -10,93 +13,105 @@ use numbers::Sense;
 ghost use mathlib.Core.Path.{_≡_};
 ghost use mathlib.Core.Bool.{true};
 ghost use mathlib.Core.List.{[], _∷_};
-ghost use lib.ListN.{length, set};
-ghost use Rattle.seq.specs.Words.{listed, zeros};
+ghost use Rattle.seq.specs.Words.{listed};
 ghost use Rattle.numbers.specs.declared.Refusal.the-variants.{Accepted};
 ghost use Rattle.numbers.specs.Numbers.{only};
-ghost use Rattle.form.specs.Form.{formLengths, fcbSize};
-ghost use Rattle.copies.specs.Copies.{startCopies};
+ghost use Rattle.form.specs.Form.{formLengths, startFcb, formsOf};
+ghost use Rattle.calls.specs.Core.{storesOf};
 ghost use Rattle.calls.specs.Reset.{resetState};
-ghost use Rattle.calls.specs.Start.{startWorld, noPrinter};
-ghost use Rattle.calls.proofs.Accepted.{Startable};
-ghost use Rattle.calls.specs.Core.{Stores, storesOf};
-ghost use Rattle.printer.specs.Whole.{lentWith, lentOf, keptSize, pairsIn, fcbIn, stateOf, outcome};
+ghost use Rattle.calls.specs.Start.{asked, startWorld};
+ghost use Rattle.calls.specs.Premises.{Startable};
+ghost use Rattle.printer.specs.Worlds.{outcome};
 
 impl Printer {
-    // The sequence of one copy with mark 0, and the starting FCB: 6 lines per inch, with channel 1 at line 1.
-    fn start_kept(kept: &mut [u8])
-        requires { ⌜ length (now kept) ≡ 160 ⌝ }
-        ensures pairs { λ _. ⌜ pairsIn (now (kept .exit)) ≡ startCopies .pairs ⌝ }
-        ensures fcb { λ _. ⌜ fcbIn (now (kept .exit)) ≡ set (zeros fcbSize) 3 1 ⌝ }
+    // What a refused Start hands back: all zeros, which no other call takes.
+    pub const NONE: Printer = Printer {
+        state: State {
+            fixed: Fixed {
+                length: 0,
+                pitches: [0; 4],
+            },
+            blocked: false,
+            forms: Forms {
+                fcb: [0; Forms::FCB_BYTES],
+                count: 0,
+            },
+            slots: Slots {
+                loaded: [false; 4],
+                selected: 0,
+            },
+            copies: Copies {
+                pairs: [0; Copies::PAIR_BYTES],
+                count: 0,
+                reference: 0,
+            },
+            sheet: Sheet {
+                line: 0,
+                written: false,
+                waiting: false,
+                due: false,
+            },
+        },
+        sense: Sense::CLEAR,
+    };
+
+    // The starting FCB of a listed form: 6 lines per inch, with channel 1 at line 1.
+    fn start_fcb(length: u16) -> Forms
+        requires { ⌜ listed formLengths length ≡ true ⌝ }
+        ensures { λ r. ⌜ r ≡ formsOf (startFcb length) ⌝ }
     {
-        seq::fill(kept, 0);
-        kept[0] = 1;
-        kept[19] = 1;
+        let mut fcb = [0u8; Forms::FCB_BYTES];
+        fcb[3] = 1;
+        Forms {
+            fcb: fcb,
+            count: (length / 4) as u8,
+        }
     }
 
-    // The starting state on a listed form, which a reset puts back; the check switch and the sense stay.
-    pub(crate) fn start_state(fixed: Fixed, blocked: bool, sense: Sense, kept: &mut [u8]) -> Printer
+    // The starting state on a listed form, which a reset puts back; the check switch stays.
+    pub(crate) fn start_state(fixed: Fixed, blocked: bool) -> State
         requires { ⌜ listed formLengths (fixed .length) ≡ true ⌝ }
-        requires { ⌜ length (now kept) ≡ 160 ⌝ }
-        ensures state { λ r. ⌜ stateOf r (now (kept .exit)) ≡ resetState fixed blocked ⌝ }
-        ensures sense { λ r. ⌜ r .sense ≡ sense ⌝ }
+        ensures { λ r. ⌜ r ≡ resetState fixed blocked ⌝ }
     {
-        Printer::start_kept(kept);
         let length = fixed.length;
-        Printer {
+        let forms = Printer::start_fcb(length);
+        State {
             fixed: fixed,
             blocked: blocked,
-            fcb: (length / 4) as u8,
+            forms: forms,
             slots: Slots {
                 loaded: [true, false, false, false],
                 selected: 0,
             },
-            pairs: 2,
-            reference: 1,
+            copies: Copies {
+                pairs: [1, 0, 0, 0, 0, 0, 0, 0, 0, 0, 0, 0, 0, 0, 0, 0],
+                count: 2,
+                reference: 1,
+            },
             sheet: Sheet {
                 line: 1,
                 written: false,
                 waiting: false,
                 due: false,
             },
-            sense: sense,
         }
     }
 
-    // What a refused Start hands back: no printer.
-    pub fn none(refusal: Refusal) -> Step
-        ensures { λ r. ⌜ ((m : Stores) → outcome r [] (lentWith (zeros keptSize) m)
-            ≡ record { answer = only refusal 0; buffer = []; world = noPrinter m }) ⌝ }
-    {
-        Step {
-            printer: Printer::NONE,
-            answer: Answer {
-                refusal: refusal,
-                status: 0,
-                ready: false,
-                lines: 0,
-                copy: 0,
-                mark: 0,
-            },
-        }
-    }
-
-    // All as a reset leaves it, with the page empty, the checks allowed and the sense clear.
-    pub fn begin(
+    // All as a reset leaves it, with the page empty, the checks allowed and the sense clear, whatever printer there was.
+    pub fn start(
+        mut self,
         form: u32,
         p0: u32,
         p1: u32,
         p2: u32,
         p3: u32,
-        kept: &mut [u8],
         page: &mut [u8],
         legends: &mut [u8],
         tables: &mut [u8],
     ) -> Step
-        requires { ⌜ Startable form (p0 ∷ p1 ∷ p2 ∷ p3 ∷ []) (storesOf (now page) (now legends) (now tables)) ⌝ }
-        requires { ⌜ length (now kept) ≡ 160 ⌝ }
-        ensures { λ r. ⌜ outcome r [] (lentOf (now (kept .exit)) (now (page .exit)) (now (legends .exit)) (now (tables .exit)))
-            ≡ record { answer = only Accepted 0; buffer = []; world = startWorld form (p0 ∷ p1 ∷ p2 ∷ p3 ∷ []) } ⌝ }
+        requires { ⌜ Startable (asked form (p0 ∷ p1 ∷ p2 ∷ p3 ∷ [])) (storesOf (now page) (now legends) (now tables)) ⌝ }
+        ensures { λ r. ⌜ outcome r [] (storesOf (now (page .exit)) (now (legends .exit)) (now (tables .exit)))
+            ≡ record { answer = only Accepted 0; buffer = []; world = startWorld (asked form (p0 ∷ p1 ∷ p2 ∷ p3 ∷ [])) } ⌝ }
     {
         let fixed = Fixed {
             length: form as u16,
@@ -105,9 +120,13 @@ impl Printer {
         seq::fill(page, 0);
         seq::fill(legends, 0);
         line::tables::start_tables(tables);
+        let state = Printer::start_state(fixed, false);
+        let sense = Sense::CLEAR;
+        self.state = state;
+        self.sense = sense;
         Step {
-            printer: Printer::start_state(fixed, false, Sense::CLEAR, kept),
-            answer: Answer::DONE,
+            printer: self,
+            answer: Answer::only(Refusal::Accepted, 0),
         }
     }
 }

@@ -8,5 +8,4 @@ pub byte3-spec : {M : Type 1} → statement M
 unfolding byte3
 byte3-spec =
     tie.close
-    (tie.spec (λ c κs. search needs) (λ c κs. search needs) (λ c. search needs) (λ c κs. search needs) (λ c. search needs) (λ c. λ k. simp
-    (c .flag2 .ensures .0, c .before .flag .ensures .0, c .before .before .before .is-started .ensures)))
+    (tie.spec (λ c κs. search needs) (λ c κs. search needs) (λ c. search needs) (λ c κs. search needs) (λ c. search needs) (λ c. simp (c .flag2 .ensures .0, c .before .flag .ensures .0, c .before .before .before .is-started .ensures)))

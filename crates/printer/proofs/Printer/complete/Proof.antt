@@ -7,5 +7,4 @@ use Rattle.printer.proofs.Printer.complete.Tie as tie
 
 pub complete-spec : {M : Type 1} → statement M
 unfolding toTop noCauses
-complete-spec =
-    tie.close (tie.spec (λ c κs. search needs) (λ c κs. search needs) (λ c. λ l b. rw (← c .before .moved-sheet .ensures) (c .finish .ensures l b)))
+complete-spec = tie.close (tie.spec (λ c κs. search needs) (λ c κs. search needs) (λ c. λ m b. rw (← c .before .moved-sheet .ensures) (c .finish .ensures m b)))

@@ -1,14 +1,18 @@
 -- Started or not, as the definition has it; what is reported does not depend on the line.
-use Rattle.line.specs.Line.{noCauses}
 use mathlib.Core.Path.{sym, _∙_}
 use Rattle.movement.specs.Movement.{still}
-use Rattle.calls.specs.Effects.{done, doControl, completing}
+use Rattle.line.specs.Line.{noCauses}
+use Rattle.calls.specs.Effects.{done, completing, doControl}
 use borrow.Author.Needs.{needs}
 use Rattle.printer.proofs.Printer.initialize.Statement.{statement}
 use Rattle.printer.proofs.Printer.initialize.Tie as tie
 
-pub initialize-spec : {M : Type 1} → statement M
+returns-2 : tie.Need-returns-2
 unfolding doControl completing done still noCauses
+returns-2 c = λ p b. rw (sym (c .before .before .before .before .before .before .before .before .before .is-started .ensures) ∙ c .before .before .before .before .before .before .before .before .if1 .left, ← c .before .before .before .before .before .reset .ensures .0 p) (c .stand .ensures _ b)
+
+pub initialize-spec : {M : Type 1} → statement M
+unfolding doControl completing
 initialize-spec =
     tie.close
     (tie.spec
@@ -19,9 +23,4 @@ initialize-spec =
     (λ c κs. search needs)
     (λ c. search needs)
     (λ c. search needs)
-    (λ c. search needs)
-    (λ c. λ p b. let r = c .before .before .before .before .before .before .before in let e = r .before .before .before .before in rw (
-      sym (e .before .is-started .ensures)
-          ∙ e .if1 .left,
-      ← r .reset .ensures .0 p,
-    ) (c .stand .ensures _ b)))
+    returns-2)

@@ -8,29 +8,20 @@ use borrow.Author.Needs.{needs}
 use Rattle.printer.proofs.Printer.load_legends.Statement.{statement}
 use Rattle.printer.proofs.Printer.load_legends.Tie as tie
 
-pub load-legends-spec : {M : Type 1} → statement M
+store-legends-requires : tie.Need-store-legends-requires
+store-legends-requires c κs = let s = c .before .before .before .before .before .before .before .before .before .before in (s .pre .legends, (s .pre .short, (s .pre .sound, ap length (c .before .serving .ensures) ∙ length-serving (s .args .self .state .slots) (s .args .tables .now) (s .pre .slot) (s .pre .tables))))
+
+returns : tie.Need-returns
 unfolding doLoad loaded loadCauses lineCauses
+returns c = λ p b. let e = c .before .before .before in rw (← e .before .before .serving .ensures, ← e .store-legends .ensures .0, ← e .store-legends .ensures .1, ← e .before .before .before .is-loaded .ensures) (c .stand .ensures _ b)
+
+pub load-legends-spec : {M : Type 1} → statement M
 load-legends-spec =
     tie.close
     (tie.spec
     (λ c κs. search needs)
     (λ c κs. search needs)
-    (λ c κs. let s = c .before .before .before .before .before .before .before .before .before in (
-      s .pre .1 .1 .1 .0,
-      (
-        s .pre .1 .1 .0,
-        (
-          s .pre .1 .0,
-          ap length (c .before .serving .ensures)
-              ∙ length-serving (s .args .self .slots) (s .args .tables .now) (s .pre .0) (s .pre .1 .1 .1 .1),
-        ),
-      ),
-    ))
+    store-legends-requires
     (λ c κs. search needs)
     (λ c. search needs)
-    (λ c. λ a p b. let e = c .before .before .before in rw (
-      ← e .before .before .serving .ensures,
-      ← e .store-legends .ensures .0,
-      ← e .store-legends .ensures .1,
-      ← e .before .before .before .is-loaded .ensures,
-    ) (c .stand .ensures _ b)))
+    returns)

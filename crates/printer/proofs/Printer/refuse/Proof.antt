@@ -6,6 +6,4 @@ use Rattle.printer.proofs.Printer.refuse.Tie as tie
 
 pub refuse-spec : {M : Type 1} → statement M
 unfolding refused
-refuse-spec =
-    tie.close (tie.spec (λ c κs. search needs) (λ c κs. search needs) (λ c. λ l b. let s = c .before .before in rw
-    (c .status .ensures (s .args .count), c .before .sense .ensures)))
+refuse-spec = tie.close (tie.spec (λ c κs. search needs) (λ c κs. search needs) (λ c κs. search needs) (λ c. λ m b. rw (c .only .ensures, c .before .after .ensures, c .before .before .row .ensures)))

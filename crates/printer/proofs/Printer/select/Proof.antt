@@ -1,6 +1,6 @@
 -- The slot stored, then nothing moved.
 use Rattle.line.specs.Line.{noCauses}
-use Rattle.calls.specs.Effects.{doControl, slotSelected}
+use Rattle.calls.specs.Effects.{slotSelected, doControl}
 use borrow.Author.Needs.{needs}
 use Rattle.printer.proofs.Printer.select.Statement.{statement}
 use Rattle.printer.proofs.Printer.select.Tie as tie

@@ -6,4 +6,4 @@ use Rattle.printer.proofs.Printer.sense_bytes.Tie as tie
 
 pub sense-bytes-spec : {M : Type 1} → statement M
 unfolding senseBytes
-sense-bytes-spec = tie.close (tie.spec (λ c κs. search needs) (λ c. λ k. rw (c .before .byte3 .ensures k)))
+sense-bytes-spec = tie.close (tie.spec (λ c κs. search needs) (λ c. rw (c .before .byte3 .ensures)))

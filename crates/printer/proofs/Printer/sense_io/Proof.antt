@@ -1,12 +1,15 @@
--- The reply is the 24 bytes over the front of the buffer; the rest is No-Op's answer, with the sense clear.
+-- The reply is the bytes over the front of the buffer; the rest is No-Op's answer, with the sense clear.
 use Rattle.calls.specs.Reset.{senseBytes}
 use Rattle.calls.specs.Effects.{doControl}
 use borrow.Author.Needs.{needs}
 use Rattle.printer.proofs.Printer.sense_io.Statement.{statement}
 use Rattle.printer.proofs.Printer.sense_io.Tie as tie
 
-pub sense-io-spec : {M : Type 1} → statement M
+returns : tie.Need-returns
 unfolding doControl senseBytes
+returns c = λ m. rw (c .before .before .before .copy-all .ensures, c .before .before .before .before .before .before .sense-bytes .ensures) (c .no-op .ensures m _)
+
+pub sense-io-spec : {M : Type 1} → statement M
 sense-io-spec =
     tie.close
     (tie.spec
@@ -18,5 +21,4 @@ sense-io-spec =
     (λ c κs. search needs)
     (λ c κs. search needs)
     (λ c. search needs)
-    (λ c. λ l. rw (c .before .before .before .copy-all .ensures, c .before .before .before .before .before .before .sense-bytes .ensures (l .kept))
-    (c .quietly .ensures l _)))
+    returns)

@@ -4,8 +4,12 @@ use borrow.Author.Needs.{needs}
 use Rattle.printer.proofs.Printer.write.Statement.{statement}
 use Rattle.printer.proofs.Printer.write.Tie as tie
 
-pub write-spec : {M : Type 1} → statement M
+returns : tie.Need-returns
 unfolding doWrite written writeCauses
+returns c = λ l b. let e = c .before .before .before in let w = c .before .before .before .before .before .before .before in
+    rw (← w .write-line .ensures .1, ← w .write-line .ensures .0, ← e .before .move-of .ensures, ← e .or-unmatched .ensures, ← c .before .before .written-sheet .ensures, ← c .before .moved-sheet .ensures) (c .finish .ensures _ b)
+
+pub write-spec : {M : Type 1} → statement M
 write-spec =
     tie.close
     (tie.spec
@@ -16,11 +20,4 @@ write-spec =
     (λ c κs. search needs)
     (λ c κs. search needs)
     (λ c. search needs)
-    (λ c. λ l b. let e = c .before .before .before in let w = e .before .before .before in rw (
-      ← w .before .before .move-of .ensures,
-      ← w .write-line .ensures .1,
-      ← w .write-line .ensures .0,
-      ← e .or-unmatched .ensures,
-      ← c .before .before .mark .ensures,
-      ← c .before .moved-sheet .ensures,
-    ) (c .finish .ensures _ b)))
+    returns)
