@@ -14,31 +14,22 @@ use Rattle.numbers.specs.declared.Checked.the-variants.{Sound, Faulty}
 use Rattle.numbers.specs.Numbers.{isSound}
 use Rattle.numbers.specs.Sizes.{pageLines}
 use Rattle.numbers.proofs.Laws.{faulty, sound-is}
-use Rattle.form.specs.Form.{formLengths, formOk, upper, unitsOf, mostUnits, leastUnits, units, halfInch, runs, runsFrom, unitsTotal, between, linesWhere, printable, edges, badChannel, otherUpper, oddRun, fcbCheck, layoutCheck, layoutOf, channelAt, startFcb, fcbSize, formsOf}
+use Rattle.form.specs.Form.{formLengths, formOk, upper, unitsOf, mostUnits, leastUnits, units, halfInch, runs, runsFrom, unitsTotal, between, linesWhere, printable, edges, otherUpper, oddRun, fcbCheck, layoutCheck, layoutOf, channelAt, startFcb, fcbSize, formsOf}
 
 -- no whole number of half inches
 abbrev pub odd : ℕ → Bool
 odd n = not (eqb (n % halfInch) 0)
 
--- What the first three checks found.
-pub record Passes (len : ℕ) (f : List ℕ) : Type 0 where
-  pub channels : badChannel f ≡ false
+-- What the checks found of spacings and sum.
+record Passes (len : ℕ) (f : List ℕ) : Type 0 where
   pub spacings : otherUpper f ≡ false
-  pub even : oddRun f ≡ false
   pub sum : unitsTotal f ≡ len
 
-pub passes : (len : ℕ) (f : List ℕ) → fcbCheck len f ≡ Sound → Passes len f
+passes : (len : ℕ) (f : List ℕ) → fcbCheck len f ≡ Sound → Passes len f
 unfolding fcbCheck layoutCheck layoutOf
 passes len f e =
-    let h₁ = passed _ _ faulty e in
-    let h₂ = passed _ _ faulty (h₁ .1) in
-    let h₃ = passed _ _ faulty (h₂ .1) in
-    record {
-      channels = h₁ .0;
-      spacings = or-left (otherUpper f) (oddRun f) (h₂ .0);
-      even = or-right (otherUpper f) (oddRun f) (h₂ .0);
-      sum = eqb-true _ _ (not-false _ (h₃ .0));
-    }
+    let h = passed _ _ faulty (passed _ _ faulty e .1) in
+    record { spacings = or-left (otherUpper f) (oddRun f) (h .0); sum = eqb-true _ _ (not-false _ (passed _ _ faulty (h .1) .0)) }
 
 -- An upper half means 4, 3 or 2 units, or none of these.
 pub units-has : (P : ℕ → Type 0) (u : ℕ) → P 4 → P 3 → P 2 → P 0 → P (unitsOf u)
@@ -59,7 +50,7 @@ first-upper b bs h = or-left (eqb (units b) 0) (otherUpper bs) h
 pub rest-upper : (b : ℕ) (bs : List ℕ) → otherUpper (b ∷ bs) ≡ false → otherUpper bs ≡ false
 rest-upper b bs h = or-right (eqb (units b) 0) (otherUpper bs) h
 
--- A form that Start takes has a listed length; the shortest and the longest of them.
+-- A form that Start takes has a listed length, from the shortest to the longest.
 abbrev pub shortest : ℕ
 shortest = 72
 

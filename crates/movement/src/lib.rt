@@ -6,7 +6,7 @@ ghost use lib.Dec.{ltb};
 ghost use lib.ListN.{length, take, drop};
 ghost use Rattle.numbers.specs.Sizes.{pageLines};
 ghost use Rattle.form.specs.Form.{channelAt, fcbSize};
-ghost use Rattle.movement.specs.Movement.{round, upToFirst, has, spaced, skipped, moved};
+ghost use Rattle.movement.specs.Movement.{OnForm, round, upToFirst, has, spaced, skipped, moved};
 
 // What a command asks of the form: to space so many lines, or to skip to a channel.
 pub enum Motion {
@@ -47,9 +47,7 @@ fn channel_at(lines: &[u8], line: u8) -> u8
 
 // Spaces n lines, one at a time.
 fn space(lines: &[u8], line: u8, n: u8) -> Moved
-    requires { ⌜ 1 ≤ line ⌝ }
-    requires { ⌜ line ≤ length (now lines) ⌝ }
-    requires { ⌜ length (now lines) ≤ pageLines ⌝ }
+    requires { ⌜ OnForm (now lines) line ⌝ }
     ensures { λ r. ⌜ r ≡ spaced (now (lines .entry)) line n ⌝ }
 {
     let last = lines.len() as u8;
@@ -101,9 +99,7 @@ fn line_after(last: u8, line: u8, count: u8) -> u8
 
 // How many lines a skip looks at: up to the match, all P if there is none.
 pub fn search(lines: &[u8], line: u8, channel: u8) -> u8
-    requires { ⌜ 1 ≤ line ⌝ }
-    requires { ⌜ line ≤ length (now lines) ⌝ }
-    requires { ⌜ length (now lines) ≤ pageLines ⌝ }
+    requires { ⌜ OnForm (now lines) line ⌝ }
     ensures { λ r. ⌜ r ≡ length (upToFirst (has (now (lines .entry)) channel) (round (length (now (lines .entry))) line)) ⌝ }
 {
     let last = lines.len() as u8;
@@ -120,9 +116,7 @@ pub fn search(lines: &[u8], line: u8, channel: u8) -> u8
 
 // The last line looked at tells whether one matched.
 fn skip(lines: &[u8], line: u8, channel: u8) -> Moved
-    requires { ⌜ 1 ≤ line ⌝ }
-    requires { ⌜ line ≤ length (now lines) ⌝ }
-    requires { ⌜ length (now lines) ≤ pageLines ⌝ }
+    requires { ⌜ OnForm (now lines) line ⌝ }
     ensures { λ r. ⌜ r ≡ skipped (now (lines .entry)) line channel ⌝ }
 {
     let last = lines.len() as u8;
@@ -150,9 +144,7 @@ fn skip(lines: &[u8], line: u8, channel: u8) -> Moved
 }
 
 fn move_lines(lines: &[u8], line: u8, motion: Motion) -> Moved
-    requires { ⌜ 1 ≤ line ⌝ }
-    requires { ⌜ line ≤ length (now lines) ⌝ }
-    requires { ⌜ length (now lines) ≤ pageLines ⌝ }
+    requires { ⌜ OnForm (now lines) line ⌝ }
     ensures { λ r. ⌜ r ≡ moved (now (lines .entry)) line motion ⌝ }
 {
     match motion {
