@@ -1,73 +1,79 @@
--- After check 2 no line crosses the border of a half inch, so that where a line starts says in which half inch it lies.
-use Prim.Native.Nat.{ℕ, _+_, _%_, _≤_}
-use mathlib.Core.Path.{_≡_, refl, ap}
-use mathlib.Core.Bool.{Bool, true, false, cond, _&&_, true≢false}
+-- After checks 2 and 3 no line crosses the border of an edge half inch, so that where a line starts says where all of it lies.
+use Prim.Native.Nat.{ℕ, _+_, _-_, _%_, _≤_, _<_}
+use mathlib.Core.Path.{_≡_, refl, _∙_}
+use mathlib.Core.Bool.{Bool, true, false, not, _&&_, _||_, true≢false}
 use mathlib.Core.List.{List, [], _∷_}
 use native.Mathlib.Omega.{arith}
-use lib.Dec.{eqb, leb}
-use borrow.Author.Tests.{eqb-true, le-leb, not-false}
-use Rattle.seq.specs.Words.{any}
-use Rattle.seq.proofs.Laws.{or-left, or-right, and-both}
-use Rattle.numbers.specs.declared.Checked.the-variants.{Sound}
-use Rattle.form.specs.Form.{upper, unitsOf, units, halfInch, runsFrom, runs, otherUpper, fcbCheck}
-use Rattle.form.proofs.FormLaws.{odd, Passes, passes, units-has, four-units, first-upper, rest-upper}
+use lib.Dec.{eqb, ltb}
+use borrow.Author.Tests.{eqb-true, ltb-true, le-ltb, not-false}
+use Rattle.seq.proofs.Laws.{or-left, or-right}
+use Rattle.form.specs.Form.{upper, unitsOf, units, halfInch, unitsTotal, otherUpper, oddRun}
+use Rattle.form.proofs.FormLaws.{odd, units-has, first-upper, rest-upper}
+use Rattle.form.proofs.LayoutLaws.{oddFrom, odd-start}
 
--- no line, the first `off` units down, crosses a multiple of half an inch
-unfoldable pub borders : ℕ → List ℕ → Bool
-borders off [] = true
-borders off (b ∷ bs) = leb (off % halfInch + units b) halfInch && borders (off + units b) bs
+-- Whether a line starts above x and ends below it; the first starts `off` units down.
+unfoldable pub straddles : ℕ → ℕ → List ℕ → Bool
+straddles x off [] = false
+straddles x off (b ∷ bs) = (ltb off x && ltb x (off + units b)) || straddles x (off + units b) bs
 
--- n is a whole number of lines of u units, which divide half an inch
-data Whole (u n : ℕ) : Type 0 where
-  four : u ≡ 4 → n % 4 ≡ 0 → Whole u n
-  three : u ≡ 3 → n % 3 ≡ 0 → Whole u n
-  two : u ≡ 2 → n % 2 ≡ 0 → Whole u n
+-- n is a multiple of u, the units of a spacing.
+data Multiple (u n : ℕ) : Type 0 where
+  four : u ≡ 4 → n % 4 ≡ 0 → Multiple u n
+  three : u ≡ 3 → n % 3 ≡ 0 → Multiple u n
+  two : u ≡ 2 → n % 2 ≡ 0 → Multiple u n
 
-fits : (u n off : ℕ) → Whole u n → off % 12 ≡ n % 12 → off % 12 + u ≤ 12
-fits u n off (four e h) s = omega arith
-fits u n off (three e h) s = omega arith
-fits u n off (two e h) s = omega arith
-
-next : (u n : ℕ) → Whole u n → Whole u (n + u)
+next : (u n : ℕ) → Multiple u n → Multiple u (n + u)
 next u n (four e h) = four e (omega arith)
 next u n (three e h) = three e (omega arith)
 next u n (two e h) = two e (omega arith)
 
-whole-one : (u : ℕ) → eqb (unitsOf u) 0 ≡ false → Whole (unitsOf u) (unitsOf u)
-whole-one u =
-    units-has (λ n. eqb n 0 ≡ false → Whole n n) u (λ e. four refl refl) (λ e. three refl refl) (λ e. two refl refl) (λ e. absurd (true≢false e))
+-- All of them divide half an inch.
+at-half-inch : (u n : ℕ) → eqb (unitsOf u) 0 ≡ false → n % halfInch ≡ 0 → Multiple (unitsOf u) n
+at-half-inch u n z h =
+    units-has (λ m. eqb m 0 ≡ false → Multiple m n) u
+    (λ e. four refl (omega arith)) (λ e. three refl (omega arith)) (λ e. two refl (omega arith)) (λ e. absurd (true≢false e)) z
 
--- A line of the open run, which has the upper half u and n units so far, or the first of another run.
-border-step : (u n off b : ℕ) (bs : List ℕ) (t : Bool) → eqb (upper b) u ≡ t → Whole (unitsOf u) n → off % 12 ≡ n % 12 → eqb (units b) 0 ≡ false
-    → any odd (cond t (runsFrom u (n + units b) bs) (n ∷ runsFrom (upper b) (units b) bs)) ≡ false
-    → (Whole (unitsOf u) (n + units b) → (off + units b) % 12 ≡ (n + units b) % 12 → any odd (runsFrom u (n + units b) bs) ≡ false → borders (off + units b) bs ≡ true)
-    → (Whole (units b) (units b) → (off + units b) % 12 ≡ units b % 12 → any odd (runsFrom (upper b) (units b) bs) ≡ false → borders (off + units b) bs ≡ true)
-    → (leb (off % 12 + units b) 12 && borders (off + units b) bs) ≡ true
-border-step u n off b bs true et w s z e same change =
-    let q : units b ≡ unitsOf u = ap unitsOf (eqb-true (upper b) u et) in
-    let w′ : Whole (units b) n = rw q w in
-    and-both (le-leb (off % 12 + units b) 12 (fits (units b) n off w′ s)) (same (rw (← q) (next (units b) n w′)) (omega arith) e)
-border-step u n off b bs false et w s z e same change =
-    let c : n % 12 ≡ 0 = eqb-true (n % 12) 0 (not-false (eqb (n % 12) 0) (or-left (odd n) (any odd (runsFrom (upper b) (units b) bs)) e)) in
-    let w′ : Whole (units b) (units b) = whole-one (upper b) z in
-    and-both (le-leb (off % 12 + units b) 12 (omega (arith, four-units (upper b))))
-    (change w′ (omega arith) (or-right (odd n) (any odd (runsFrom (upper b) (units b) bs)) e))
+even-is : (n : ℕ) → odd n ≡ false → n % halfInch ≡ 0
+even-is n e = eqb-true (n % halfInch) 0 (not-false _ e)
 
-run-borders : (u n off : ℕ) (bs : List ℕ) → Whole (unitsOf u) n → off % 12 ≡ n % 12 → otherUpper bs ≡ false → any odd (runsFrom u n bs) ≡ false → borders off bs ≡ true
-unfolding runsFrom borders
-run-borders u n off [] w s z e = refl
-run-borders u n off (b ∷ bs) w s z e =
-    border-step u n off b bs (eqb (upper b) u) refl w s (first-upper b bs z) e
-    (λ w′ s′ e′. run-borders u (n + units b) (off + units b) bs w′ s′ (rest-upper b bs z) e′)
-    (λ w′ s′ e′. run-borders (upper b) (units b) (off + units b) bs w′ s′ (rest-upper b bs z) e′)
+abbrev changesOdd : ℕ → ℕ → ℕ → Bool
+changesOdd u off b = not (eqb (upper b) u) && odd off
 
-all-borders : (f : List ℕ) → otherUpper f ≡ false → any odd (runs f) ≡ false → borders 0 f ≡ true
-unfolding runs borders
-all-borders [] z e = refl
-all-borders (b ∷ bs) z e =
-    let w : Whole (units b) (units b) = whole-one (upper b) (first-upper b bs z) in
-    and-both (le-leb (0 % 12 + units b) 12 (omega (arith, four-units (upper b))))
-    (run-borders (upper b) (units b) (0 + units b) bs w (omega arith) (rest-upper b bs z) e)
+-- A run starts at a half inch, so that each of its lines starts at a multiple of its units.
+multiple-here : (u off b : ℕ) (t : Bool) → eqb (upper b) u ≡ t → Multiple (unitsOf u) off → eqb (units b) 0 ≡ false → (not t && odd off) ≡ false
+    → Multiple (units b) off
+multiple-here u off b true k m z e = rw (eqb-true (upper b) u k) m
+multiple-here u off b false k m z e = at-half-inch (upper b) off z (even-is off e)
 
-pub no-straddle : (len : ℕ) (f : List ℕ) → fcbCheck len f ≡ Sound → borders 0 f ≡ true
-no-straddle len f e = let p : Passes len f = passes len f e in all-borders f (p .spacings) (p .whole)
+-- x is a whole number of half inches down.
+module _ (x : ℕ) (h : x % halfInch ≡ 0) where
+  ends-above : (u off : ℕ) → Multiple u off → off < x → off + u ≤ x
+  ends-above u off (four e k) l = omega arith
+  ends-above u off (three e k) l = omega arith
+  ends-above u off (two e k) l = omega arith
+
+  line-clear : (u off : ℕ) → Multiple u off → (t : Bool) → ltb off x ≡ t → (t && ltb x (off + u)) ≡ false
+  line-clear u off m false e = refl
+  line-clear u off m true e = le-ltb x (off + u) (ends-above u off m (ltb-true off x e))
+
+  lines-clear : (u off : ℕ) (bs : List ℕ) → Multiple (unitsOf u) off → otherUpper bs ≡ false → oddFrom u off bs ≡ false → straddles x off bs ≡ false
+  unfolding oddFrom straddles
+  lines-clear u off [] m z e = refl
+  lines-clear u off (b ∷ bs) m z e =
+      let n = multiple-here u off b (eqb (upper b) u) refl m (first-upper b bs z) (or-left _ _ e) in
+      rw (line-clear (units b) off n (ltb off x) refl)
+      (lines-clear (upper b) (off + units b) bs (next (units b) off n) (rest-upper b bs z) (or-right (changesOdd u off b) _ e))
+
+even-end : (u off : ℕ) (bs : List ℕ) → oddFrom u off bs ≡ false → (off + unitsTotal bs) % halfInch ≡ 0
+unfolding oddFrom unitsTotal
+even-end u off [] e = omega (arith, even-is off e)
+even-end u off (b ∷ bs) e = omega (arith, even-end (upper b) (off + units b) bs (or-right (changesOdd u off b) _ e))
+
+pub no-straddle : (len : ℕ) (f : List ℕ) → (otherUpper f || oddRun f) ≡ false → unitsTotal f ≡ len
+    → (straddles halfInch 0 f ≡ false) × (straddles (len - halfInch) 0 f ≡ false)
+unfolding unitsOf
+no-straddle len f c sum =
+    let z = or-left (otherUpper f) (oddRun f) c in
+    let e = odd-start f ∙ or-right (otherUpper f) (oddRun f) c in
+    let n = even-end 0 0 f e in
+    (lines-clear halfInch refl 0 0 f (four refl refl) z e, lines-clear (len - halfInch) (omega arith) 0 0 f (four refl refl) z e)

@@ -15,7 +15,7 @@ use Rattle.seq.proofs.Laws.{cond-has}
 use Rattle.form.specs.declared.Layout.{Layout}
 use Rattle.form.specs.declared.fcb.Pass.{Pass}
 use Rattle.form.specs.declared.Forms.{Forms}
-use Rattle.form.specs.Form.{upper, channel, units, halfInch, runs, runsFrom, unitsTotal, between, linesWhere, printable, edges, badChannel, otherUpper, oddRun, layoutOf, layoutCheck, fcbCheck, fcbNow, hasChannel}
+use Rattle.form.specs.Form.{upper, units, halfInch, runs, runsFrom, unitsTotal, between, linesWhere, printable, edges, highChannel, badChannel, otherUpper, oddRun, layoutOf, layoutCheck, fcbCheck, fcbNow, hasChannel}
 use Rattle.form.specs.Pass.{start, stepOf}
 use Rattle.form.proofs.FormLaws.{odd}
 
@@ -30,7 +30,7 @@ odd-change n off v p q e h = go (odd off) refl
   where
     go : (t : Bool) → odd off ≡ t → (t || p) ≡ (odd n || q)
     go true k = rw (← e, k) refl
-    go false k = let z : off % 12 ≡ 0 = eqb-true _ _ (not-false _ k) in rw (← e, k) (h (omega arith))
+    go false k = let z : off % halfInch ≡ 0 = eqb-true _ _ (not-false _ k) in rw (← e, k) (h (omega arith))
 
 odd-step : (u n off b : ℕ) (bs : List ℕ) (t : Bool) → eqb (upper b) u ≡ t → off % halfInch ≡ n % halfInch
     → ((m : ℕ) → (off + units b) % halfInch ≡ m % halfInch → oddFrom (upper b) (off + units b) bs ≡ any odd (runsFrom (upper b) m bs))
@@ -44,7 +44,7 @@ unfolding oddFrom runsFrom
 odd-from u n off [] e = rw e (sym (or-false (odd n)))
 odd-from u n off (b ∷ bs) e = odd-step u n off b bs (eqb (upper b) u) refl e (λ m k. odd-from (upper b) m (off + units b) bs k)
 
-odd-start : (f : List ℕ) → oddFrom 0 0 f ≡ oddRun f
+pub odd-start : (f : List ℕ) → oddFrom 0 0 f ≡ oddRun f
 unfolding oddFrom runs
 odd-start [] = refl
 odd-start (b ∷ bs) = rw (and-false (not (eqb (upper b) 0))) (odd-from (upper b) (units b) (0 + units b) bs (omega arith))
@@ -100,7 +100,7 @@ module _ (len : ℕ) where
       sym
       (λ i.
       record {
-        channel = or-assoc (s .channel) (ltb 12 (channel b)) (badChannel bs) i;
+        channel = or-assoc (s .channel) (highChannel b) (badChannel bs) i;
         spacing =
             or-assoc (s .other) (eqb (units b) 0) (otherUpper bs) i
             || or-assoc (s .odd) (not (eqb (upper b) (s .upper)) && odd at) (oddFrom (upper b) (at + units b) bs) i;
@@ -145,7 +145,7 @@ module _ (len : ℕ) where
   block off f = linesWhere (between len) off f
 
   first-not : (off : ℕ) → first off ≡ true → between len off ≡ false
-  first-not off e = rw (lt-leb 12 off (ltb-true off 12 e)) refl
+  first-not off e = rw (lt-leb halfInch off (ltb-true off halfInch e)) refl
 
   one-of : (off : ℕ) → bit (first off) 1 + bit (between len off) 1 ≤ 1
   one-of off = go (first off) refl (between len off) refl
@@ -167,8 +167,8 @@ module _ (len : ℕ) where
   -- after the first half inch, no line that follows one that is not printable is
   past : (off m : ℕ) → halfInch ≤ off → between len off ≡ false → off ≤ m → between len m ≡ false
   past off m h e k =
-      let l : len - 12 ≤ off = ltb-false off (len - 12) (rw (le-leb 12 off h) at e) in
-      rw (le-ltb m (len - 12) (omega arith)) (and-false (leb 12 m))
+      let l : len - halfInch ≤ off = ltb-false off (len - halfInch) (rw (le-leb halfInch off h) at e) in
+      rw (le-ltb m (len - halfInch) (omega arith)) (and-false (leb halfInch m))
 
   block-from : (off : ℕ) (f : List ℕ) → halfInch ≤ off → take (length (block off f)) f ≡ block off f
   unfolding linesWhere
@@ -185,8 +185,8 @@ module _ (len : ℕ) where
       cond-has (λ (ls : List ℕ). take (length (block off (b ∷ bs))) (drop (length ls) (b ∷ bs)) ≡ block off (b ∷ bs)) (first off)
       (λ e. rw (first-not off e) (part-from (off + units b) bs))
       (λ e.
-      let h : 12 ≤ off = ltb-false off 12 e in
-      rw (no-lines first (off + units b) bs (λ m k. le-ltb m 12 (omega arith))) (block-from off (b ∷ bs) h))
+      let h : halfInch ≤ off = ltb-false off halfInch e in
+      rw (no-lines first (off + units b) bs (λ m k. le-ltb m halfInch (omega arith))) (block-from off (b ∷ bs) h))
 
   pub layout-fits : (f : List ℕ) → layoutOf len f .top + layoutOf len f .lines ≤ length f
   unfolding layoutOf printable
@@ -197,5 +197,5 @@ module _ (len : ℕ) where
   lines-part f = part-from 0 f
 
   -- The bytes that a printer keeps begin with its FCB.
-  pub lines-kept : (s : Forms) → take (layoutOf len (fcbNow s) .lines) (drop (layoutOf len (fcbNow s) .top) (s .fcb)) ≡ printable len (fcbNow s)
-  lines-kept s = in-front _ _ (s .count) (s .fcb) (layout-fits (fcbNow s)) ∙ lines-part (fcbNow s)
+  pub lines-in-array : (s : Forms) → take (layoutOf len (fcbNow s) .lines) (drop (layoutOf len (fcbNow s) .top) (s .fcb)) ≡ printable len (fcbNow s)
+  lines-in-array s = in-front _ _ (s .count) (s .fcb) (layout-fits (fcbNow s)) ∙ lines-part (fcbNow s)

@@ -1,4 +1,4 @@
 pub mod FormLaws
-pub mod Border
 pub mod LayoutLaws
+pub mod Border
 pub mod Uniform

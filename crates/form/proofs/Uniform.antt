@@ -14,8 +14,8 @@ use Rattle.seq.specs.Scan.{past}
 use Rattle.seq.specs.Words.{any, every, zeroFrom}
 use Rattle.seq.proofs.Laws.{and-left, and-right, or-left, or-right}
 use Rattle.seq.proofs.Loops.{any-append, any-split, past-is}
-use Rattle.form.specs.Form.{upper, unitsOf, units, halfInch, runs, runsFrom, unitsTotal, between, linesWhere, printable, edges, oddRun, layoutOf, formsInRange, hasChannel}
-use Rattle.form.specs.Pass.{astray, uniform}
+use Rattle.form.specs.Form.{upper, unitsOf, units, halfInch, runs, runsFrom, unitsTotal, between, linesWhere, printable, edges, oddRun, layoutOf, lastChannel, highChannel, hasChannel, fcbSize, formsInRange}
+use Rattle.form.specs.Pass.{astray, edgeMost, uniform}
 use Rattle.form.proofs.FormLaws.{odd, units-has}
 
 -- No byte of a list is astray from the upper half u.
@@ -24,7 +24,7 @@ module _ (u : ℕ) where
   straight f = any (astray u) f ≡ false
 
   same-upper : (b : ℕ) → astray u b ≡ false → upper b ≡ u
-  same-upper b e = eqb-true (upper b) u (not-false (eqb (upper b) u) (or-left (not (eqb (upper b) u)) (ltb 12 (b % 16)) e))
+  same-upper b e = eqb-true (upper b) u (not-false (eqb (upper b) u) (or-left (not (eqb (upper b) u)) (highChannel b) e))
 
   first-straight : (b : ℕ) (bs : List ℕ) → straight (b ∷ bs) → upper b ≡ u
   first-straight b bs e = same-upper b (or-left (astray u b) (any (astray u) bs) e)
@@ -73,12 +73,12 @@ record Counts (n k l len : ℕ) : Type 0 where
   pub some : 0 < n
   pub half : n * k ≡ halfInch
   pub inner : halfInch + n * (l - k - k) ≡ len - halfInch
-  pub whole : n * l ≡ len
+  pub fills : n * l ≡ len
   pub room : k + k ≤ l
 
-counts : (u l len : ℕ) → 12 ≤ l → 12 * l ≡ halfInch / unitsOf u * len → Counts (unitsOf u) (halfInch / unitsOf u) l len
+counts : (u l len : ℕ) → edgeMost ≤ l → halfInch * l ≡ halfInch / unitsOf u * len → Counts (unitsOf u) (halfInch / unitsOf u) l len
 counts u l len h =
-    units-has (λ n. 12 * l ≡ halfInch / n * len → Counts n (halfInch / n) l len) u
+    units-has (λ n. halfInch * l ≡ halfInch / n * len → Counts n (halfInch / n) l len) u
     (λ e. omega arith) (λ e. omega arith) (λ e. omega arith) (λ e. absurd (omega (arith, rw div-zero at e)))
 
 -- It is its first half inch, the lines between, and its last half inch.
@@ -110,25 +110,25 @@ module _ (u k len : ℕ) (f : List ℕ) (s : straight u f) (n : Counts (unitsOf 
       let l₁ = length-take-le k f (omega arith) in
       let l₂ = length-take-le (length f - k - k) (drop k f) (rw length-drop (omega arith)) in
       let l₃ : length foot ≡ k = length-drop (length f - k) f ∙ omega arith in
-      let last = front u t x (len - 12) len foot [] (n .some) s₃ (rw l₃ (omega arith)) (λ m l r. hx m (omega arith) l) in
+      let last = front u t x (len - halfInch) len foot [] (n .some) s₃ (rw l₃ (omega arith)) (λ m l r. hx m (omega arith) l) in
       ap (linesWhere t 0) split
-      ∙ front u t v 0 12 top (inner ++ foot) (n .some) (or-left (any-of top) (any-of (drop k f)) s₁) (rw l₁ (omega arith)) (λ m l r. hv m r)
+      ∙ front u t v 0 halfInch top (inner ++ foot) (n .some) (or-left (any-of top) (any-of (drop k f)) s₁) (rw l₁ (omega arith)) (λ m l r. hv m r)
       ∙ ap (λ (ls : List ℕ). cond v top [] ++ ls)
-      (front u t w 12 (len - 12) inner foot (n .some) (or-left (any-of inner) _ s₂) (rw l₂ (n .inner)) hw
+      (front u t w halfInch (len - halfInch) inner foot (n .some) (or-left (any-of inner) _ s₂) (rw l₂ (n .inner)) hw
       ∙ ap (λ (ls : List ℕ). cond w inner [] ++ ls) (simp append-nil at last))
 
   above : (m : ℕ) → m < halfInch → between len m ≡ false
-  above m r = rw (lt-leb 12 m r) refl
+  above m r = rw (lt-leb halfInch m r) refl
 
   within : (m : ℕ) → halfInch ≤ m → m < len - halfInch → between len m ≡ true
-  within m l r = rw (le-leb 12 m l, lt-ltb m (len - 12) r) refl
+  within m l r = rw (le-leb halfInch m l, lt-ltb m (len - halfInch) r) refl
 
   below : (m : ℕ) → halfInch ≤ m → len - halfInch ≤ m → between len m ≡ false
-  below m l r = rw (le-leb 12 m l, le-ltb m (len - 12) r) refl
+  below m l r = rw (le-leb halfInch m l, le-ltb m (len - halfInch) r) refl
 
   first-lines : linesWhere (λ off. ltb off halfInch) 0 f ≡ top
   first-lines =
-      parts (λ off. ltb off 12) true false false (λ m r. lt-ltb m 12 r) (λ m l r. le-ltb m 12 l) (λ m l r. le-ltb m 12 l) ∙ append-nil top
+      parts (λ off. ltb off halfInch) true false false (λ m r. lt-ltb m halfInch r) (λ m l r. le-ltb m halfInch l) (λ m l r. le-ltb m halfInch l) ∙ append-nil top
 
   inner-lines : linesWhere (between len) 0 f ≡ inner
   inner-lines = parts (between len) false true false above within below ∙ append-nil inner
@@ -147,11 +147,11 @@ module _ (u k len : ℕ) (f : List ℕ) (s : straight u f) (n : Counts (unitsOf 
   }
   unfolding layoutOf printable edges
   layout-parts =
-      let sum : unitsTotal f ≡ len = units-straight u f s ∙ n .whole in
+      let sum : unitsTotal f ≡ len = units-straight u f s ∙ n .fills in
       let known = none-of u (λ b. eqb (units b) 0) (λ b e. rw (same-upper u b e) (ne-eqb (unitsOf u) 0 (λ q. omega arith))) f s in
       λ i.
       record {
-        channel = none-of u (λ b. ltb 12 (b % 16)) (λ b e. or-right (not (eqb (upper b) u)) _ e) f s i;
+        channel = none-of u highChannel (λ b e. or-right (not (eqb (upper b) u)) _ e) f s i;
         spacing = (ap (λ (t : Bool). t || oddRun f) known ∙ runs-straight u f s ∙ ap odd sum) i;
         units = sum i;
         edge = (ap (any hasChannel) edge-lines ∙ any-append hasChannel top foot) i;
@@ -159,9 +159,9 @@ module _ (u k len : ℕ) (f : List ℕ) (s : straight u f) (n : Counts (unitsOf 
         lines = (ap length inner-lines ∙ length-take-le (length f - k - k) (drop k f) (rw length-drop (omega arith))) i;
       }
 
-pub room-uniform : (len : ℕ) (f : List ℕ) → uniform len f ≡ true → 12 ≤ length f
+pub room-uniform : (len : ℕ) (f : List ℕ) → uniform len f ≡ true → edgeMost ≤ length f
 unfolding uniform
-room-uniform len f e = leb-true 12 (length f) (and-left (leb 12 (length f)) _ e)
+room-uniform len f e = leb-true edgeMost (length f) (and-left (leb edgeMost (length f)) _ e)
 
 -- As many bytes as are a half inch at the first byte's spacing.
 abbrev pub halfInchLines : List ℕ → ℕ
@@ -178,42 +178,42 @@ pub layout-uniform : (len : ℕ) (f : List ℕ) → uniform len f ≡ true → l
 unfolding uniform
 layout-uniform len f e =
     let u = upper (getD f 0 0) in
-    let fills = eqb (12 * length f) (halfInchLines f * len) in
-    let h = and-right (leb 12 (length f)) _ e in
-    let n = counts u (length f) len (room-uniform len f e) (eqb-true (12 * length f) (halfInchLines f * len) (and-left fills _ h)) in
+    let fills = eqb (halfInch * length f) (halfInchLines f * len) in
+    let h = and-right (leb edgeMost (length f)) _ e in
+    let n = counts u (length f) len (room-uniform len f e) (eqb-true (halfInch * length f) (halfInchLines f * len) (and-left fills _ h)) in
     layout-parts u (halfInchLines f) len f (not-true (any (astray u) f) (and-right fills _ h)) n
 
--- A byte of the upper half differs from it by its channel; any other differs by more than 12, round the end of the bytes if it lies below.
-differs : (u b d : ℕ) → u ≤ 15 → d < 256 → (d + 16 * u) % 256 ≡ b → ltb 12 d ≡ astray u b
-differs u b d h l e = go (eqb (b / 16) u) refl (ltb 12 (b % 16)) refl
+-- A byte of the upper half differs from it by its channel; any other differs by more than the last channel, round the end of the bytes if it lies below.
+differs : (u b d : ℕ) → u ≤ 15 → d < 256 → (d + 16 * u) % 256 ≡ b → ltb lastChannel d ≡ astray u b
+differs u b d h l e = go (eqb (b / 16) u) refl (highChannel b) refl
   where
-    go : (s : Bool) → eqb (b / 16) u ≡ s → (t : Bool) → ltb 12 (b % 16) ≡ t → ltb 12 d ≡ (not s || t)
-    go true p true q = lt-ltb 12 d (omega (arith, eqb-true (b / 16) u p, ltb-true 12 (b % 16) q))
-    go true p false q = le-ltb 12 d (omega (arith, eqb-true (b / 16) u p, ltb-false 12 (b % 16) q))
-    go false p t q = lt-ltb 12 d (omega (arith, eqb-false (b / 16) u p))
+    go : (s : Bool) → eqb (b / 16) u ≡ s → (t : Bool) → highChannel b ≡ t → ltb lastChannel d ≡ (not s || t)
+    go true p true q = lt-ltb lastChannel d (omega (arith, eqb-true (b / 16) u p, ltb-true lastChannel (b % 16) q))
+    go true p false q = le-ltb lastChannel d (omega (arith, eqb-true (b / 16) u p, ltb-false lastChannel (b % 16) q))
+    go false p t q = lt-ltb lastChannel d (omega (arith, eqb-false (b / 16) u p))
 
--- So it lies past the upper half by more than 12 where it is astray.
-past-astray : (u b : ℕ) → u ≤ 15 → b ≤ 255 → past (16 * u) 12 b ≡ astray u b
+-- So it lies past the upper half by more than the last channel where it is astray.
+past-astray : (u b : ℕ) → u ≤ 15 → b ≤ 255 → past (16 * u) lastChannel b ≡ astray u b
 past-astray u b h l =
     let d = (b + (256 - 16 * u)) % 256 in
     let e : (d + 16 * u) % 256 ≡ b = omega arith in
-    sym (past-is (16 * u) 12 b d (omega arith) (omega arith) e) ∙ differs u b d h (omega arith) e
+    sym (past-is (16 * u) lastChannel b d (omega arith) (omega arith) e) ∙ differs u b d h (omega arith) e
 
-any-past-astray : (u n : ℕ) (f : List ℕ) → u ≤ 15 → ((k : ℕ) → getD f k 0 ≤ 255) → any (past (16 * u) 12) (take n f) ≡ any (astray u) (take n f)
+any-past-astray : (u n : ℕ) (f : List ℕ) → u ≤ 15 → ((k : ℕ) → getD f k 0 ≤ 255) → any (past (16 * u) lastChannel) (take n f) ≡ any (astray u) (take n f)
 any-past-astray u zero f h bytes = refl
 any-past-astray u (suc n) [] h bytes = refl
 any-past-astray u (suc n) (b ∷ f) h bytes =
     rw (past-astray u b h (bytes 0)) (ap (λ (t : Bool). astray u b || t) (any-past-astray u n f h (λ k. bytes (suc k))))
 
 -- Where the count leaves room, three tests are left: the sum, a scan of the FCB's bytes, and 00 after them.
-pub uniform-kept : (len n : ℕ) (f : List ℕ) → 12 ≤ n → n ≤ 144 → length f ≡ 144 → ((k : ℕ) → getD f k 0 ≤ 255)
+pub uniform-tests : (len n : ℕ) (f : List ℕ) → edgeMost ≤ n → n ≤ fcbSize → length f ≡ fcbSize → ((k : ℕ) → getD f k 0 ≤ 255)
     → (formsInRange (record { fcb = f; count = n }) && uniform len (take n f))
-    ≡ (eqb (12 * n) (halfInchLines f * len) && (not (any (past (16 * upper (getD f 0 0)) 12) (take n f)) && zeroFrom n f))
+    ≡ (eqb (halfInch * n) (halfInchLines f * len) && (not (any (past (16 * upper (getD f 0 0)) lastChannel) (take n f)) && zeroFrom n f))
 unfolding formsInRange every uniform
-uniform-kept len n f lo hi l bytes =
+uniform-tests len n f lo hi l bytes =
     let u = upper (getD f 0 0) in
-    rw (length-take-le n f (omega arith), getD-take n f 0 0 (omega arith), le-leb n 144 hi, le-leb 12 n lo, any-past-astray u n f (omega (arith, bytes 0)) bytes)
-    (both (eqb (12 * n) (halfInchLines f * len)) (not (any (astray u) (take n f))) (zeroFrom n f))
+    rw (length-take-le n f (omega arith), getD-take n f 0 0 (omega arith), le-leb n fcbSize hi, le-leb edgeMost n lo, any-past-astray u n f (omega (arith, bytes 0)) bytes)
+    (both (eqb (halfInch * n) (halfInchLines f * len)) (not (any (astray u) (take n f))) (zeroFrom n f))
   where
     both : (e a z : Bool) → ((z && true) && (e && a)) ≡ (e && (a && z))
     both e true true = refl

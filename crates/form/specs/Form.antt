@@ -38,6 +38,13 @@ channel b = b % 16
 unfoldable pub unitsOf : ℕ → ℕ
 unitsOf u = cond (eqb u 0) 4 (cond (eqb u 1) 3 (cond (eqb u 3) 2 0))
 
+-- The units of the widest and of the narrowest line.
+abbrev pub mostUnits : ℕ
+mostUnits = 4
+
+abbrev pub leastUnits : ℕ
+leastUnits = 2
+
 abbrev pub units : ℕ → ℕ
 units b = unitsOf (upper b)
 
@@ -60,7 +67,7 @@ unfoldable pub unitsTotal : List ℕ → ℕ
 unitsTotal f = total (map units f)
 
 -- Whether a line lies between the first and the last half inch of a form of `len` units; `off` is where it starts. That is
--- enough, since after check 2 no line crosses the border of a half inch (`no-straddle`, proofs/Border).
+-- enough, since after checks 2 and 3 no line crosses the border of either (`no-straddle`, proofs/Border).
 abbrev pub between : ℕ → ℕ → Bool
 between len off = leb halfInch off && ltb off (len - halfInch)
 
@@ -77,8 +84,11 @@ unfoldable pub edges : ℕ → List ℕ → List ℕ
 edges len f = linesWhere (λ off. not (between len off)) 0 f
 
 -- The checks of the paper's list of four, by name.
+abbrev pub lastChannel : ℕ
+lastChannel = 12
+
 abbrev pub highChannel : ℕ → Bool
-highChannel b = ltb 12 (channel b)
+highChannel b = ltb lastChannel (channel b)
 
 abbrev pub badChannel : List ℕ → Bool
 badChannel f = any highChannel f
@@ -129,7 +139,7 @@ channelAt ls line = channel (getD ls (line - 1) 0)
 unfoldable pub startFcb : ℕ → List ℕ
 startFcb len = zeros 3 ++ 1 ∷ zeros (len / 4 - 4)
 
--- Forms control as the printer keeps it: a record of at most 144 bytes, and 00 after it.
+-- Forms control as the printer keeps it: a record of at most so many bytes, and 00 after it.
 abbrev pub fcbSize : ℕ
 fcbSize = 144
 

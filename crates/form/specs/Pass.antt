@@ -7,7 +7,7 @@ use lib.ListN.{length, getD}
 use lib.Dec.{eqb, leb, ltb}
 use Rattle.seq.specs.Words.{any, bit}
 use Rattle.form.specs.declared.fcb.Pass.{Pass}
-use Rattle.form.specs.Form.{upper, units, halfInch, highChannel, hasChannel}
+use Rattle.form.specs.Form.{upper, units, leastUnits, halfInch, highChannel, hasChannel}
 
 -- Before the first byte; its upper half does not matter, since a run that ends at 0 units is not odd.
 unfoldable pub start : Pass
@@ -33,8 +33,15 @@ stepOf last s b =
 abbrev pub astray : ℕ → ℕ → Bool
 astray u b = not (eqb (upper b) u) || highChannel b
 
+-- The most lines of half an inch, and of both edge half inches.
+abbrev pub halfInchMost : ℕ
+halfInchMost = halfInch / leastUnits
+
+abbrev pub edgeMost : ℕ
+edgeMost = 2 * halfInchMost
+
 -- The FCB has room for both edge half inches at any spacing, fills the form, and no byte is astray from the first.
 unfoldable pub uniform : ℕ → List ℕ → Bool
 uniform len f =
     let b = getD f 0 0 in
-    leb 12 (length f) && (eqb (12 * length f) (halfInch / units b * len) && not (any (astray (upper b)) f))
+    leb edgeMost (length f) && (eqb (halfInch * length f) (halfInch / units b * len) && not (any (astray (upper b)) f))

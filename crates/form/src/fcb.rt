@@ -1,20 +1,30 @@
 // Document 01, "Form and forms control": what an FCB says, whether its load takes it, and forms control as the printer keeps it.
-use crate::Kept;
+use crate::Forms;
+use crate::Judged;
 use crate::Layout;
 use numbers::Cause;
 use numbers::Checked;
 ghost use mathlib.Core.Path.{_≡_};
 ghost use mathlib.Core.Bool.{true, not, _&&_};
 ghost use mathlib.Core.List.{[], _∷_};
-ghost use Prim.Native.Nat.{_+_, _-_, _/_, _%_, _≤_};
+ghost use Prim.Native.Nat.{_+_, _*_, _-_, _/_, _%_, _≤_};
 ghost use lib.Dec.{eqb};
 ghost use lib.ListN.{length, take};
 ghost use Rattle.seq.specs.Words.{any, listed};
-ghost use Rattle.form.specs.Form.{formLengths, pitchesListed, formOk, unitsOf, halfInch, hasChannel};
+ghost use Rattle.numbers.specs.Sizes.{legendSize};
+ghost use Rattle.form.specs.Form.{formLengths, pitchesListed, formOk, unitsOf, mostUnits, halfInch, hasChannel, fcbSize};
 ghost use Rattle.form.specs.Form.{layoutOf, layoutCheck, fcbCheck, formsInRange};
-ghost use Rattle.form.specs.Pass.{stepOf, uniform};
+ghost use Rattle.form.specs.Pass.{stepOf, halfInchMost, edgeMost, uniform};
 
 const HALF_INCH: u16 = 12;
+
+// The most lines of both edge half inches, 6 in each.
+const EDGE_MOST: usize = 12;
+
+const LAST_CHANNEL: u8 = 12;
+
+// How many bytes a scan takes between two tests.
+const BLOCK: usize = 32;
 
 // What the bytes so far have shown: the upper half of the last one, a bad channel, another upper half, a run that ended within a half inch,
 // the units in all, a channel in an edge half inch, the lines that start in the first half inch, and the printable ones.
@@ -30,7 +40,7 @@ struct Pass {
 }
 
 fn units(upper: u8) -> u16
-    ensures { λ r. ⌜ (r ≡ unitsOf upper) × (r ≤ 4) ⌝ }
+    ensures { λ r. ⌜ (r ≡ unitsOf upper) × (r ≤ mostUnits) ⌝ }
 {
     if upper == 0 {
         return 4;
@@ -56,8 +66,8 @@ fn ends_odd(change: bool, at: u16) -> bool
 
 // One more byte; the printable lines start before `last`.
 fn step(last: u16, s: Pass, b: u8) -> Pass
-    requires { ⌜ (s .units ≤ 32768) × ((s .top ≤ 8192) × (s .lines ≤ 8192)) ⌝ }
-    ensures { λ r. ⌜ (r ≡ stepOf last s b) × ((r .units ≤ s .units + 4) × ((r .top ≤ s .top + 1) × (r .lines ≤ s .lines + 1))) ⌝ }
+    requires { ⌜ (s .units ≤ mostUnits * legendSize) × ((s .top ≤ legendSize) × (s .lines ≤ legendSize)) ⌝ }
+    ensures { λ r. ⌜ (r ≡ stepOf last s b) × ((r .units ≤ s .units + mostUnits) × ((r .top ≤ s .top + 1) × (r .lines ≤ s .lines + 1))) ⌝ }
 {
     let at = s.units;
     let upper = b / 16;
@@ -67,7 +77,7 @@ fn step(last: u16, s: Pass, b: u8) -> Pass
     let between = (HALF_INCH <= at) & (at < last);
     Pass {
         upper: upper,
-        channel: s.channel | (12 < channel),
+        channel: s.channel | (LAST_CHANNEL < channel),
         other: s.other | (n == 0),
         odd: s.odd | odd,
         units: at + n,
@@ -88,7 +98,7 @@ fn less(a: u16, b: u16) -> u16
 
 // One pass over an FCB.
 fn lay_out(form: u16, fcb: &[u8]) -> Layout
-    requires { ⌜ length (now fcb) ≤ 8192 ⌝ }
+    requires { ⌜ length (now fcb) ≤ legendSize ⌝ }
     ensures { λ r. ⌜ r ≡ layoutOf form (now (fcb .entry)) ⌝ }
 {
     let last = less(form, HALF_INCH);
@@ -131,7 +141,7 @@ fn any_channel(lines: &[u8]) -> bool
 
 // The lines of a half inch, none where the upper half means no spacing.
 fn half_inch_lines(upper: u8) -> u16
-    ensures { λ r. ⌜ (r ≡ halfInch / unitsOf upper) × (r ≤ 6) ⌝ }
+    ensures { λ r. ⌜ (r ≡ halfInch / unitsOf upper) × (r ≤ halfInchMost) ⌝ }
 {
     if upper == 0 {
         return 3;
@@ -146,8 +156,8 @@ fn half_inch_lines(upper: u8) -> u16
 }
 
 fn lay_out_uniform(form: u16, fcb: &[u8]) -> Layout
-    requires { ⌜ 12 ≤ length (now fcb) ⌝ }
-    requires { ⌜ length (now fcb) ≤ 8192 ⌝ }
+    requires { ⌜ edgeMost ≤ length (now fcb) ⌝ }
+    requires { ⌜ length (now fcb) ≤ legendSize ⌝ }
     requires { ⌜ uniform form (now fcb) ≡ true ⌝ }
     ensures { λ r. ⌜ r ≡ layoutOf form (now (fcb .entry)) ⌝ }
 {
@@ -185,60 +195,60 @@ pub fn layout_check(form: u16, layout: Layout) -> Checked
 }
 
 pub fn fcb_check(form: u16, fcb: &[u8]) -> Checked
-    requires { ⌜ length (now fcb) ≤ 8192 ⌝ }
+    requires { ⌜ length (now fcb) ≤ legendSize ⌝ }
     ensures { λ r. ⌜ r ≡ fcbCheck form (now (fcb .entry)) ⌝ }
 {
     let layout = lay_out(form, fcb);
     layout_check(form, layout)
 }
 
-// Whether the FCB that a printer keeps is in range and of one spacing throughout. How far a byte lies past the first one's upper half tests both of
-// its halves: that is its channel where the upper half is the same, and more than 12 at any other.
-fn is_kept_uniform(form: u16, fcb: &[u8], count: u8) -> bool
-    requires { ⌜ length (now fcb) ≡ 144 ⌝ }
+// Whether an FCB in its array is in range and of one spacing throughout. How far a byte lies past the first one's upper half tests both of
+// its halves: that is its channel where the upper half is the same, and more than the last channel at any other.
+fn is_uniform(form: u16, fcb: &[u8], count: u8) -> bool
+    requires { ⌜ length (now fcb) ≡ fcbSize ⌝ }
     ensures { λ r. ⌜ r ≡ (formsInRange (record { fcb = now (fcb .entry); count = count }) && uniform form (take count (now (fcb .entry)))) ⌝ }
 {
-    if 144 < count {
+    let n = seq::wide(count);
+    if Forms::FCB_BYTES < n {
         return false;
     }
-    if count < 12 {
+    if n < EDGE_MOST {
         return false;
     }
     let upper = fcb[0] / 16;
     let k = half_inch_lines(upper);
-    let n = seq::wide(count);
-    if 12 * n != k as usize * form as usize {
+    if HALF_INCH as usize * n != k as usize * form as usize {
         return false;
     }
-    !seq::any_above_by(32, 16 * upper, 12, &fcb[0..n]) & seq::zero_from(fcb, n)
+    !seq::any_above_by(BLOCK, 16 * upper, LAST_CHANNEL, &fcb[0..n]) & seq::zero_from(fcb, n)
 }
 
 // For any count: more bytes than there are is all there are.
-fn kept_mixed(form: u16, fcb: &[u8], count: u8) -> Kept
-    requires { ⌜ length (now fcb) ≡ 144 ⌝ }
+fn judge_mixed(form: u16, fcb: &[u8], count: u8) -> Judged
+    requires { ⌜ length (now fcb) ≡ fcbSize ⌝ }
     ensures range { λ r. ⌜ r .range ≡ formsInRange (record { fcb = now (fcb .entry); count = count }) ⌝ }
     ensures layout { λ r. ⌜ r .layout ≡ layoutOf form (take count (now (fcb .entry))) ⌝ }
 {
     let n = seq::wide(count);
     let zero = seq::zero_from(fcb, n);
     let layout = lay_out(form, seq::front(fcb, n));
-    Kept {
-        range: (count <= 144) & zero,
+    Judged {
+        range: (n <= Forms::FCB_BYTES) & zero,
         layout: layout,
     }
 }
 
 // One scan is enough for most.
-pub fn kept(form: u16, fcb: &[u8], count: u8) -> Kept
-    requires { ⌜ length (now fcb) ≡ 144 ⌝ }
+pub fn judge(form: u16, fcb: &[u8], count: u8) -> Judged
+    requires { ⌜ length (now fcb) ≡ fcbSize ⌝ }
     ensures range { λ r. ⌜ r .range ≡ formsInRange (record { fcb = now (fcb .entry); count = count }) ⌝ }
     ensures layout { λ r. ⌜ r .layout ≡ layoutOf form (take count (now (fcb .entry))) ⌝ }
 {
-    if !is_kept_uniform(form, fcb, count) {
-        return kept_mixed(form, fcb, count);
+    if !is_uniform(form, fcb, count) {
+        return judge_mixed(form, fcb, count);
     }
     let layout = lay_out_uniform(form, seq::front(fcb, seq::wide(count)));
-    Kept {
+    Judged {
         range: true,
         layout: layout,
     }

@@ -1,6 +1,6 @@
 -- Document 01, "Movement": the lines that a space enters and a skip looks at, and what is reported of them. Every definition here is of
 -- that section.
-use Prim.Native.Nat.{ℕ, zero, suc, _+_, _-_}
+use Prim.Native.Nat.{ℕ, zero, suc, _+_, _-_, _≤_}
 use mathlib.Core.Bool.{Bool, false, cond, not}
 use mathlib.Core.List.{List, [], _∷_, _++_, map}
 use lib.ListN.{length}
@@ -9,7 +9,14 @@ use Rattle.seq.specs.Words.{any, lastOr, from}
 use Rattle.movement.specs.declared.Motion.{Motion}
 use Rattle.movement.specs.declared.Motion.the-variants.{Space, Skip}
 use Rattle.movement.specs.declared.Moved.{Moved}
+use Rattle.numbers.specs.Sizes.{pageLines}
 use Rattle.form.specs.Form.{channelAt}
+
+-- The current line is one of the form's; ls are the bytes of the printable lines, as many as a page has at most.
+pub record OnForm (ls : List ℕ) (line : ℕ) : Type 0 where
+  pub some : 1 ≤ line
+  pub on : line ≤ length ls
+  pub few : length ls ≤ pageLines
 
 -- A line of this form, or of a form so many forms on: each form on is a page completed.
 pub record Spot : Type 0 where

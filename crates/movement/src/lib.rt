@@ -4,8 +4,9 @@ ghost use mathlib.Core.Bool.{cond};
 ghost use Prim.Native.Nat.{_+_, _-_, _≤_};
 ghost use lib.Dec.{ltb};
 ghost use lib.ListN.{length, take, drop};
-ghost use Rattle.form.specs.Form.{channelAt};
-ghost use Rattle.movement.specs.Movement.{round, upToFirst, has, spaced, skipped, moved};
+ghost use Rattle.numbers.specs.Sizes.{pageLines};
+ghost use Rattle.form.specs.Form.{channelAt, fcbSize};
+ghost use Rattle.movement.specs.Movement.{OnForm, round, upToFirst, has, spaced, skipped, moved};
 
 // What a command asks of the form: to space so many lines, or to skip to a channel.
 pub enum Motion {
@@ -46,9 +47,7 @@ fn channel_at(lines: &[u8], line: u8) -> u8
 
 // Spaces n lines, one at a time.
 fn space(lines: &[u8], line: u8, n: u8) -> Moved
-    requires { ⌜ 1 ≤ line ⌝ }
-    requires { ⌜ line ≤ length (now lines) ⌝ }
-    requires { ⌜ length (now lines) ≤ 132 ⌝ }
+    requires { ⌜ OnForm (now lines) line ⌝ }
     ensures { λ r. ⌜ r ≡ spaced (now (lines .entry)) line n ⌝ }
 {
     let last = lines.len() as u8;
@@ -100,9 +99,7 @@ fn line_after(last: u8, line: u8, count: u8) -> u8
 
 // How many lines a skip looks at: up to the match, all P if there is none.
 pub fn search(lines: &[u8], line: u8, channel: u8) -> u8
-    requires { ⌜ 1 ≤ line ⌝ }
-    requires { ⌜ line ≤ length (now lines) ⌝ }
-    requires { ⌜ length (now lines) ≤ 132 ⌝ }
+    requires { ⌜ OnForm (now lines) line ⌝ }
     ensures { λ r. ⌜ r ≡ length (upToFirst (has (now (lines .entry)) channel) (round (length (now (lines .entry))) line)) ⌝ }
 {
     let last = lines.len() as u8;
@@ -119,9 +116,7 @@ pub fn search(lines: &[u8], line: u8, channel: u8) -> u8
 
 // The last line looked at tells whether one matched.
 fn skip(lines: &[u8], line: u8, channel: u8) -> Moved
-    requires { ⌜ 1 ≤ line ⌝ }
-    requires { ⌜ line ≤ length (now lines) ⌝ }
-    requires { ⌜ length (now lines) ≤ 132 ⌝ }
+    requires { ⌜ OnForm (now lines) line ⌝ }
     ensures { λ r. ⌜ r ≡ skipped (now (lines .entry)) line channel ⌝ }
 {
     let last = lines.len() as u8;
@@ -149,9 +144,7 @@ fn skip(lines: &[u8], line: u8, channel: u8) -> Moved
 }
 
 fn move_lines(lines: &[u8], line: u8, motion: Motion) -> Moved
-    requires { ⌜ 1 ≤ line ⌝ }
-    requires { ⌜ line ≤ length (now lines) ⌝ }
-    requires { ⌜ length (now lines) ≤ 132 ⌝ }
+    requires { ⌜ OnForm (now lines) line ⌝ }
     ensures { λ r. ⌜ r ≡ moved (now (lines .entry)) line motion ⌝ }
 {
     match motion {
@@ -162,9 +155,9 @@ fn move_lines(lines: &[u8], line: u8, motion: Motion) -> Moved
 
 // The printable lines are a part of the FCB: `lines` of them after the first `top`.
 pub fn move_form(fcb: &[u8], top: u16, lines: u16, line: u8, motion: Motion) -> Moved
-    requires { ⌜ length (now fcb) ≡ 144 ⌝ }
-    requires { ⌜ top + lines ≤ 144 ⌝ }
-    requires { ⌜ lines ≤ 132 ⌝ }
+    requires { ⌜ length (now fcb) ≡ fcbSize ⌝ }
+    requires { ⌜ top + lines ≤ fcbSize ⌝ }
+    requires { ⌜ lines ≤ pageLines ⌝ }
     requires { ⌜ 1 ≤ line ⌝ }
     requires { ⌜ line ≤ lines ⌝ }
     ensures { λ r. ⌜ r ≡ moved (take lines (drop top (now (fcb .entry)))) line motion ⌝ }

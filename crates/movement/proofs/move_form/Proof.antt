@@ -1,4 +1,4 @@
--- The part from `top` to `top + lines` lies within the 144 bytes, and the movement is that of its lines.
+-- The part from `top` to `top + lines` lies within the array, and the movement is that of its lines.
 use native.Mathlib.Nat.{add-sub-cancel-left}
 use borrow.Author.Needs.{needs}
 use Rattle.movement.proofs.move_form.Statement.{statement}

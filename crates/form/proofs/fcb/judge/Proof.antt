@@ -9,8 +9,8 @@ use Rattle.seq.proofs.Laws.{and-left, and-right}
 use Rattle.form.specs.Form.{formsInRange}
 use Rattle.form.specs.Pass.{uniform}
 use Rattle.form.proofs.Uniform.{room-uniform}
-use Rattle.form.proofs.fcb.kept.Statement.{statement}
-use Rattle.form.proofs.fcb.kept.Tie as tie
+use Rattle.form.proofs.fcb.judge.Statement.{statement}
+use Rattle.form.proofs.fcb.judge.Tie as tie
 
 abbrev start : tie.Else1 → tie.Start
 start c = c .before .before .before
@@ -22,7 +22,7 @@ abbrev one-spacing : tie.Else1 → Bool
 one-spacing c = uniform (start c .args .form) (take (start c .args .count) (start c .args .fcb .now))
 
 both : (c : tie.Else1) → (in-range c && one-spacing c) ≡ true
-both c = sym (c .before .is-kept-uniform .ensures) ∙ not-false _ (c .if1 .left)
+both c = sym (c .before .is-uniform .ensures) ∙ not-false _ (c .if1 .left)
 
 lay-out-uniform-requires : tie.Need-lay-out-uniform-requires
 lay-out-uniform-requires c κs =
@@ -37,8 +37,8 @@ returns-2 c =
     let e = w .before in
     (sym (and-left (in-range e) (one-spacing e) (both e)), rw (c .lay-out-uniform .ensures, c .before .front .ensures, w .wide .ensures .0))
 
-pub kept-spec : {M : Type 1} → statement M
-kept-spec =
+pub judge-spec : {M : Type 1} → statement M
+judge-spec =
     tie.close
     (tie.spec
     (λ c κs. search needs)
