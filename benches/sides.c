@@ -1,11 +1,12 @@
 #include "sides.h"
 
+#include "../tests/places.h"
 #include "plain.h"
 
 #include <string.h>
 
 const struct program library = {
-    "the library", TRESTLEPIP_STATE_BYTES, 12, trestlepip_start, trestlepip_command, trestlepip_compose, trestlepip_release
+    "the library", TRESTLEPIP_STATE_BYTES, AT_SELECTED, trestlepip_start, trestlepip_command, trestlepip_compose, trestlepip_release
 };
 const struct program plain = { "plain C", PLAIN_STATE_BYTES, PLAIN_STATE_SELECTED, plain_start, plain_command, plain_compose, plain_release };
 
