@@ -81,25 +81,28 @@ static void damage_line(struct generator *g, struct call *c)
     }
 }
 
+/* The call's record as an array of the state with its count, as far as there is room; 00 after it. */
+static void set_array(struct generator *g, struct call *c, size_t at_count, size_t at, size_t most)
+{
+    size_t count = c->record_len < most ? c->record_len : most;
+    memset(c->record + count, 0, most - count);
+    set_byte(g, c, STATE, at_count, (unsigned)count);
+    set_bytes(g, c, STATE, at, c->record, most);
+}
+
 /* A whole FCB in the state, taken by its load or not; the call's record is not made yet and serves to make it. */
 static void damage_fcb(struct generator *g, struct call *c)
 {
     memset(c->record, 0, CHANGE_MOST);
     fcb_record(g, c);
-    size_t count = c->record_len < FCB_MOST ? c->record_len : FCB_MOST;
-    memset(c->record + count, 0, FCB_MOST - count);
-    set_byte(g, c, STATE, AT_FCB_COUNT, (unsigned)count);
-    set_bytes(g, c, STATE, AT_FCB, c->record, FCB_MOST);
+    set_array(g, c, AT_FCB_COUNT, AT_FCB, FCB_MOST);
 }
 
-/* A whole overlay sequence in the state likewise. */
+/* A whole overlay sequence in the state, taken by its load or not. */
 static void damage_sequence(struct generator *g, struct call *c)
 {
     sequence_record(g, c);
-    size_t count = c->record_len < SEQUENCE_MOST ? c->record_len : SEQUENCE_MOST;
-    memset(c->record + count, 0, SEQUENCE_MOST - count);
-    set_byte(g, c, STATE, AT_SEQUENCE_COUNT, (unsigned)count);
-    set_bytes(g, c, STATE, AT_SEQUENCE, c->record, SEQUENCE_MOST);
+    set_array(g, c, AT_SEQUENCE_COUNT, AT_SEQUENCE, SEQUENCE_MOST);
 }
 
 /* Legends over the front of the store, taken by their load or not. */
