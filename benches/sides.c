@@ -1,13 +1,12 @@
 #include "sides.h"
 
+#include "../tests/places.h"
 #include "plain.h"
 
 #include <string.h>
 
-const struct program library = {
-    "the library", TRESTLEPIP_STATE_BYTES, 12, trestlepip_start, trestlepip_command, trestlepip_compose, trestlepip_release
-};
-const struct program plain = { "plain C", PLAIN_STATE_BYTES, PLAIN_STATE_SELECTED, plain_start, plain_command, plain_compose, plain_release };
+const struct program library = { "the library", TRESTLEPIP_STATE_BYTES, AT_SELECTED, EXPORTS(trestlepip) };
+const struct program plain = { "plain C", PLAIN_STATE_BYTES, PLAIN_STATE_SELECTED, EXPORTS(plain) };
 
 /* Bytes that no call writes are to keep this value. */
 enum { UNTOUCHED = 0xA5 };
@@ -29,10 +28,10 @@ void side_clean(struct side *s)
 uint64_t side_call(struct side *s, const struct call *c)
 {
     switch (c->kind) {
-    case CALL_START: return s->program->start(c->number, 10, 10, 12, 15, STORES);
-    case CALL_COMMAND: return s->program->command((uint8_t)c->number, c->record, c->record_len, s->reply, TRESTLEPIP_SENSE_BYTES, STORES);
-    case CALL_COMPOSE: return s->program->compose(c->number, s->out, TRESTLEPIP_PAGE_BYTES, STORES);
-    default: return s->program->release(STORES);
+    case CALL_START: return s->program->exports.start(c->number, 10, 10, 12, 15, STORES);
+    case CALL_COMMAND: return s->program->exports.command((uint8_t)c->number, c->record, c->record_len, s->reply, TRESTLEPIP_SENSE_BYTES, STORES);
+    case CALL_COMPOSE: return s->program->exports.compose(c->number, s->out, TRESTLEPIP_PAGE_BYTES, STORES);
+    default: return s->program->exports.release(STORES);
     }
 }
 

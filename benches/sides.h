@@ -2,7 +2,7 @@
 #ifndef SIDES_H
 #define SIDES_H
 
-#include "trestlepip.h"
+#include "../tests/exports.h"
 
 #include <stdalign.h>
 #include <stdbool.h>
@@ -26,12 +26,7 @@ struct program {
     const char *name;
     size_t state_bytes;
     size_t selected_at; /* the place of the selected slot */
-    uint64_t (*start)(uint32_t, uint32_t, uint32_t, uint32_t, uint32_t, uint8_t *, size_t, uint8_t *, size_t, uint8_t *, size_t, uint8_t *, size_t);
-    uint64_t (*command)(uint8_t, const uint8_t *, size_t, uint8_t *, size_t,
-            uint8_t *, size_t, uint8_t *, size_t, uint8_t *, size_t, uint8_t *, size_t);
-    uint64_t (*compose)(uint32_t, uint8_t *, size_t,
-            const uint8_t *, size_t, const uint8_t *, size_t, const uint8_t *, size_t, const uint8_t *, size_t);
-    uint64_t (*release)(uint8_t *, size_t, uint8_t *, size_t, uint8_t *, size_t, uint8_t *, size_t);
+    struct exports exports;
 };
 
 extern const struct program library, plain;

@@ -3,7 +3,7 @@
 
 #include <string.h>
 
-const size_t store_size[STORES] = { 184, 26928, 8192, 1024 };
+const size_t store_size[STORES] = { TRESTLEPIP_STATE_BYTES, TRESTLEPIP_PAGE_BYTES, TRESTLEPIP_LEGEND_BYTES, TRESTLEPIP_TABLE_BYTES };
 
 const unsigned forms[FORMS] = { 72, 84, 96, 132, 144, 168, 192, 204, 240, 264, 288 };
 

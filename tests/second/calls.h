@@ -2,11 +2,13 @@
 #ifndef CALLS_H
 #define CALLS_H
 
+#include "../../include/trestlepip.h"
+
 #include <stdbool.h>
 #include <stddef.h>
 #include <stdint.h>
 
-enum { STORES = 4, FORMS = 11, RECORD_ROOM = 10240, REPLY_ROOM = 64, OUT_ROOM = 26928 + 64, CHANGES_MOST = 3, CHANGE_MOST = 256 };
+enum { STORES = 4, FORMS = 11, RECORD_ROOM = 10240, REPLY_ROOM = 64, OUT_ROOM = TRESTLEPIP_PAGE_BYTES + 64, CHANGES_MOST = 3, CHANGE_MOST = 256 };
 
 /* The lent stores, in the order of the interface. */
 enum store { STATE, PAGE, LEGENDS, TABLES };

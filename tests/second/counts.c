@@ -1,14 +1,12 @@
 /* The table of counts. */
 #include "counts.h"
 
-#include "../../include/trestlepip.h"
+#include "../places.h"
 #include "parts.h"
 #include "second.h"
 
 #include <stdio.h>
 #include <string.h>
-
-enum { AT_BLOCK = 6, AT_RESET_DUE = 18, AT_SENSE_0 = 19, AT_SENSE_1 = 20 };
 
 /* ---- adding ---- */
 

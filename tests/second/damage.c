@@ -49,12 +49,16 @@ static void damage_byte(struct generator *g, struct call *c)
     set_byte(g, c, store, offset, other_value(g, g->stores[store][offset]));
 }
 
-/* One of the state's fields of a byte, from the pitches to the reset due, set to a value next to its range. */
+/* A byte of the state, from the pitches to the reset due, set to a value next to its range. */
 static void damage_field(struct generator *g, struct call *c)
 {
-    static const uint8_t outside[] = { 0, 1, 11, 16, 2, 145, 0, 2, 2, 2, 4, 18, 0, 133, 2, 2, 2 };
-    unsigned field = below(g, COUNT(outside));
-    set_byte(g, c, STATE, AT_PITCH + field, outside[field]);
+    static const struct { uint8_t at, outside; } bytes[] = {
+        { AT_PITCH, 0 }, { AT_PITCH + 1, 1 }, { AT_PITCH + 2, 11 }, { AT_PITCH + 3, 16 }, { AT_BLOCK, 2 }, { AT_FCB_COUNT, FCB_MOST + 1 },
+        { AT_LOADED, 0 }, { AT_LOADED + 1, 2 }, { AT_LOADED + 2, 2 }, { AT_LOADED + 3, 2 }, { AT_SELECTED, SLOTS },
+        { AT_SEQUENCE_COUNT, SEQUENCE_MOST + 2 }, { AT_COPY_NUMBER, 0 }, { AT_LINE, 133 }, { AT_WRITTEN, 2 }, { AT_WAITING, 2 }, { AT_RESET_DUE, 2 }
+    };
+    unsigned i = below(g, COUNT(bytes));
+    set_byte(g, c, STATE, bytes[i].at, bytes[i].outside);
 }
 
 /* A page that waits though none was completed, in a state that is mostly a printer's otherwise. */
@@ -77,25 +81,28 @@ static void damage_line(struct generator *g, struct call *c)
     }
 }
 
+/* The call's record as an array of the state with its count, as far as there is room; 00 after it. */
+static void set_array(struct generator *g, struct call *c, size_t at_count, size_t at, size_t most)
+{
+    size_t count = c->record_len < most ? c->record_len : most;
+    memset(c->record + count, 0, most - count);
+    set_byte(g, c, STATE, at_count, (unsigned)count);
+    set_bytes(g, c, STATE, at, c->record, most);
+}
+
 /* A whole FCB in the state, taken by its load or not; the call's record is not made yet and serves to make it. */
 static void damage_fcb(struct generator *g, struct call *c)
 {
     memset(c->record, 0, CHANGE_MOST);
     fcb_record(g, c);
-    size_t count = c->record_len < 144 ? c->record_len : 144;
-    memset(c->record + count, 0, 144 - count);
-    set_byte(g, c, STATE, AT_FCB_COUNT, (unsigned)count);
-    set_bytes(g, c, STATE, AT_FCB, c->record, 144);
+    set_array(g, c, AT_FCB_COUNT, AT_FCB, FCB_MOST);
 }
 
-/* A whole overlay sequence in the state likewise. */
+/* A whole overlay sequence in the state, taken by its load or not. */
 static void damage_sequence(struct generator *g, struct call *c)
 {
     sequence_record(g, c);
-    size_t count = c->record_len < 16 ? c->record_len : 16;
-    memset(c->record + count, 0, 16 - count);
-    set_byte(g, c, STATE, AT_SEQUENCE_COUNT, (unsigned)count);
-    set_bytes(g, c, STATE, AT_SEQUENCE, c->record, 16);
+    set_array(g, c, AT_SEQUENCE_COUNT, AT_SEQUENCE, SEQUENCE_MOST);
 }
 
 /* Legends over the front of the store, taken by their load or not. */

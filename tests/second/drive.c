@@ -1,7 +1,8 @@
-/* The driver: runs lists of calls on the library and on the second program, and compares answers and every lent byte after each call. */
+/* The driver: runs lists of calls, or a script, on the library and on the second program, and compares what they give. */
 #include "counts.h"
 #include "programs.h"
 #include "run.h"
+#include "script.h"
 
 #include <stdio.h>
 #include <stdlib.h>
@@ -9,7 +10,8 @@
 
 static void usage(void)
 {
-    fprintf(stderr, "drive: usage: drive [--calls N] [--seed S] [--lists L] [--guard]; L is not 0 and not above N\n");
+    fprintf(stderr, "drive: usage: drive [--calls N] [--seed S] [--lists L] [--guard]; L is not 0 and not above N\n"
+            "              drive --script FILE --expect FILE\n");
     exit(2);
 }
 
@@ -44,18 +46,31 @@ static struct options read_options(char **argument)
     return o;
 }
 
-int main(int count, char **arguments)
+/* Lists of calls, and the table of what they met; whether all is as it must be. */
+static bool lists_hold(struct options options)
 {
     static struct run r;
-    r.options = read_options(arguments + (count > 0 ? 1 : 0));
+    r.options = options;
     printf("%llu calls, %llu lists, seed %llu, guard pages for %s\n", r.options.calls, r.options.lists, r.options.seed,
             r.options.guard_all ? "all lists" : "two lists of each four");
     fflush(stdout);
     make_buffers(&r);
     catch_faults();
     if (!run_lists(&r))
-        return 1;
+        return false;
     unsigned missing = counts_print(&r.counts);
     printf("%llu calls in %llu lists, seed %llu: 0 differences\n", r.calls_made, r.options.lists, r.options.seed);
-    return missing == 0 ? 0 : 1;
+    return missing == 0;
+}
+
+static bool asks_for_script(int count, char **arguments)
+{
+    return count == 5 && strcmp(arguments[1], "--script") == 0 && strcmp(arguments[3], "--expect") == 0;
+}
+
+int main(int count, char **arguments)
+{
+    bool holds = asks_for_script(count, arguments) ? script_holds(arguments[2], arguments[4])
+                                                   : lists_hold(read_options(arguments + (count > 0 ? 1 : 0)));
+    return holds ? 0 : 1;
 }

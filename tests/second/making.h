@@ -2,15 +2,10 @@
 #ifndef MAKING_H
 #define MAKING_H
 
+#include "../places.h"
 #include "calls.h"
 
 enum { LINE_CELLS = 204, WRITE_MOST = 204, LOAD_MOST = 8192, SLOT_BYTES = 256, REPLY_BYTES = 24, HEAD = 6, SEGMENT_LEAST = 7 };
-
-/* Places in the state that the generator looks at; docs/STATE.md. */
-enum {
-    AT_FORM = 0, AT_PITCH = 2, AT_FCB_COUNT = 7, AT_LOADED = 8, AT_SEQUENCE_COUNT = 13, AT_NUMBER = 14, AT_LINE = 15, AT_WRITTEN = 16,
-    AT_WAITING = 17, AT_RESET_DUE = 18, AT_SEQUENCE = 24, AT_FCB = 40
-};
 
 #define COUNT(array) (sizeof(array) / sizeof((array)[0]))
 

@@ -2,23 +2,20 @@
 #ifndef SECOND_PARTS_H
 #define SECOND_PARTS_H
 
+#include "../places.h"
+
 #include <stdbool.h>
 #include <stddef.h>
 #include <stdint.h>
 
 enum {
-    STATE_BYTES = 184,
+    STATE_BYTES = TRESTLEPIP_STATE_BYTES,
     LINE_CELLS = 204,
     PAGE_BYTES = 132 * LINE_CELLS,
     LEGEND_BYTES = 8192,
-    SLOTS = 4,
     SLOT_BYTES = 256,
     TABLE_BYTES = SLOTS * SLOT_BYTES,
     REPLY_BYTES = 24,
-    MODULES = 4,
-    FCB_MOST = 144,
-    SEQUENCE_MOST = 16,
-    SENSE_KEPT = 5,
     LOAD_MOST = 8192,
     HALF_INCH = 12,
     SEGMENT_HEAD = 6

@@ -3,25 +3,13 @@
 
 #include "programs.h"
 
-#include "../../include/trestlepip.h"
 #include "second.h"
 
 #include <setjmp.h>
 #include <signal.h>
 #include <string.h>
 
-/* The four calls of one program. */
-struct program {
-    uint64_t (*start)(uint32_t, uint32_t, uint32_t, uint32_t, uint32_t, uint8_t *, size_t, uint8_t *, size_t, uint8_t *, size_t, uint8_t *, size_t);
-    uint64_t (*command)(uint8_t, const uint8_t *, size_t, uint8_t *, size_t,
-            uint8_t *, size_t, uint8_t *, size_t, uint8_t *, size_t, uint8_t *, size_t);
-    uint64_t (*compose)(uint32_t, uint8_t *, size_t,
-            const uint8_t *, size_t, const uint8_t *, size_t, const uint8_t *, size_t, const uint8_t *, size_t);
-    uint64_t (*release)(uint8_t *, size_t, uint8_t *, size_t, uint8_t *, size_t, uint8_t *, size_t);
-};
-
-static const struct program library = { trestlepip_start, trestlepip_command, trestlepip_compose, trestlepip_release };
-static const struct program second = { second_start, second_command, second_compose, second_release };
+static const struct exports library = EXPORTS(trestlepip), second = EXPORTS(second);
 
 /* What a call is handed: null for some empty buffers; a store of wrong size from the begin of the right one, or up to its end. */
 static uint8_t *handed(const struct set *s, unsigned part, size_t length, const struct call *c)
@@ -35,7 +23,7 @@ static uint8_t *handed(const struct set *s, unsigned part, size_t length, const 
 #define HANDED_STORES HANDED(STATE, c->store_len[STATE]), HANDED(PAGE, c->store_len[PAGE]), \
     HANDED(LEGENDS, c->store_len[LEGENDS]), HANDED(TABLES, c->store_len[TABLES])
 
-static uint64_t make_call(const struct program *p, const struct set *s, const struct call *c)
+static uint64_t make_call(const struct exports *p, const struct set *s, const struct call *c)
 {
     switch (c->kind) {
     case CALL_START: return p->start(c->form, c->pitch[0], c->pitch[1], c->pitch[2], c->pitch[3], HANDED_STORES);

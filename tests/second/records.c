@@ -26,7 +26,7 @@ unsigned lines_now(const struct generator *g)
 {
     const uint8_t *s = state_of(g);
     unsigned top = 0, lines = 0;
-    for (unsigned i = 0; i < s[AT_FCB_COUNT] && i < 144; i++) {
+    for (unsigned i = 0; i < s[AT_FCB_COUNT] && i < FCB_MOST; i++) {
         lines += top >= 12 && top + 12 < form_now(g);
         top += units(s[AT_FCB + i]);
     }
@@ -38,7 +38,7 @@ unsigned copies_now(const struct generator *g)
 {
     const uint8_t *s = state_of(g);
     unsigned copies = 0;
-    for (unsigned i = 0; i < s[AT_SEQUENCE_COUNT] && i < 16; i += 2)
+    for (unsigned i = 0; i < s[AT_SEQUENCE_COUNT] && i < SEQUENCE_MOST; i += 2)
         copies += s[AT_SEQUENCE + i];
     return copies == 0 ? 1 : copies;
 }
@@ -52,7 +52,7 @@ bool started_now(const struct generator *g)
 unsigned channel_near(struct generator *g)
 {
     const uint8_t *s = state_of(g);
-    unsigned count = s[AT_FCB_COUNT] > 144 ? 144 : s[AT_FCB_COUNT];
+    unsigned count = s[AT_FCB_COUNT] > FCB_MOST ? FCB_MOST : s[AT_FCB_COUNT];
     unsigned first = below(g, count);
     for (unsigned i = first; i < count; i++)
         if (s[AT_FCB + i] % 16 >= 1 && s[AT_FCB + i] % 16 <= 12)
@@ -63,7 +63,7 @@ unsigned channel_near(struct generator *g)
 /* A slot that is loaded, mostly one of the higher. */
 unsigned slot_near(struct generator *g)
 {
-    unsigned slot = below(g, 4);
+    unsigned slot = below(g, SLOTS);
     while (slot > 0 && state_of(g)[AT_LOADED + slot] != 1)
         slot--;
     return slot;
@@ -360,7 +360,7 @@ void number_record(struct generator *g, struct call *c)
 /* The copies and lines of a segment: mostly some that the page has. */
 static void segment_place(struct generator *g, uint8_t *s)
 {
-    unsigned first = state_of(g)[AT_NUMBER] + below(g, copies_now(g));
+    unsigned first = state_of(g)[AT_COPY_NUMBER] + below(g, copies_now(g));
     s[0] = (uint8_t)(percent(g, 85) && first <= 255 && first != 0 ? first : between(g, 1, 255));
     s[1] = (uint8_t)(percent(g, 70) ? between(g, 1, copies_now(g) < 255 ? copies_now(g) : 255) : between(g, 1, 255));
     s[2] = (uint8_t)(percent(g, 85) ? between(g, 1, lines_now(g)) : between(g, 1, 255));

@@ -3,61 +3,61 @@
 
 #include <string.h>
 
-/* STATE.md: the row of single bytes 6 to 18, in its order. */
+/* STATE.md: the fields of one byte, in its order. */
 static void decode_singles(const uint8_t *bytes, struct printer *p)
 {
-    p->block = bytes[6];
-    p->fcb_count = bytes[7];
-    p->selected = bytes[12];
-    p->sequence_count = bytes[13];
-    p->copy_number = bytes[14];
-    p->line = bytes[15];
-    p->written = bytes[16];
-    p->waiting = bytes[17];
-    p->reset_due = bytes[18];
+    p->block = bytes[AT_BLOCK];
+    p->fcb_count = bytes[AT_FCB_COUNT];
+    p->selected = bytes[AT_SELECTED];
+    p->sequence_count = bytes[AT_SEQUENCE_COUNT];
+    p->copy_number = bytes[AT_COPY_NUMBER];
+    p->line = bytes[AT_LINE];
+    p->written = bytes[AT_WRITTEN];
+    p->waiting = bytes[AT_WAITING];
+    p->reset_due = bytes[AT_RESET_DUE];
 }
 
 /* STATE.md, read; any bytes are taken here and judged later. */
 void decode(const uint8_t *bytes, struct printer *p)
 {
-    p->form = bytes[0] * 256u + bytes[1];
+    p->form = bytes[AT_FORM] * 256u + bytes[AT_FORM + 1];
     decode_singles(bytes, p);
-    for (unsigned i = 0; i < 4; i++) {
-        p->pitch[i] = bytes[2 + i];
-        p->loaded[i] = bytes[8 + i];
-    }
-    memcpy(p->sense, bytes + 19, SENSE_KEPT);
-    memcpy(p->sequence, bytes + 24, SEQUENCE_MOST);
-    memcpy(p->fcb, bytes + 40, FCB_MOST);
+    for (unsigned i = 0; i < MODULES; i++)
+        p->pitch[i] = bytes[AT_PITCH + i];
+    for (unsigned i = 0; i < SLOTS; i++)
+        p->loaded[i] = bytes[AT_LOADED + i];
+    memcpy(p->sense, bytes + AT_SENSE_0, SENSE_KEPT);
+    memcpy(p->sequence, bytes + AT_SEQUENCE, SEQUENCE_MOST);
+    memcpy(p->fcb, bytes + AT_FCB, FCB_MOST);
 }
 
-/* STATE.md: bytes 6 to 18 again, written. */
+/* STATE.md: the fields of one byte again, written. */
 static void encode_singles(const struct printer *p, uint8_t *bytes)
 {
-    bytes[6] = (uint8_t)p->block;
-    bytes[7] = (uint8_t)p->fcb_count;
-    bytes[12] = (uint8_t)p->selected;
-    bytes[13] = (uint8_t)p->sequence_count;
-    bytes[14] = (uint8_t)p->copy_number;
-    bytes[15] = (uint8_t)p->line;
-    bytes[16] = (uint8_t)p->written;
-    bytes[17] = (uint8_t)p->waiting;
-    bytes[18] = (uint8_t)p->reset_due;
+    bytes[AT_BLOCK] = (uint8_t)p->block;
+    bytes[AT_FCB_COUNT] = (uint8_t)p->fcb_count;
+    bytes[AT_SELECTED] = (uint8_t)p->selected;
+    bytes[AT_SEQUENCE_COUNT] = (uint8_t)p->sequence_count;
+    bytes[AT_COPY_NUMBER] = (uint8_t)p->copy_number;
+    bytes[AT_LINE] = (uint8_t)p->line;
+    bytes[AT_WRITTEN] = (uint8_t)p->written;
+    bytes[AT_WAITING] = (uint8_t)p->waiting;
+    bytes[AT_RESET_DUE] = (uint8_t)p->reset_due;
 }
 
 /* STATE.md, written. */
 void encode(const struct printer *p, uint8_t *bytes)
 {
-    bytes[0] = (uint8_t)(p->form / 256u);
-    bytes[1] = (uint8_t)(p->form % 256u);
+    bytes[AT_FORM] = (uint8_t)(p->form / 256u);
+    bytes[AT_FORM + 1] = (uint8_t)(p->form % 256u);
     encode_singles(p, bytes);
-    for (unsigned i = 0; i < 4; i++) {
-        bytes[2 + i] = (uint8_t)p->pitch[i];
-        bytes[8 + i] = (uint8_t)p->loaded[i];
-    }
-    memcpy(bytes + 19, p->sense, SENSE_KEPT);
-    memcpy(bytes + 24, p->sequence, SEQUENCE_MOST);
-    memcpy(bytes + 40, p->fcb, FCB_MOST);
+    for (unsigned i = 0; i < MODULES; i++)
+        bytes[AT_PITCH + i] = (uint8_t)p->pitch[i];
+    for (unsigned i = 0; i < SLOTS; i++)
+        bytes[AT_LOADED + i] = (uint8_t)p->loaded[i];
+    memcpy(bytes + AT_SENSE_0, p->sense, SENSE_KEPT);
+    memcpy(bytes + AT_SEQUENCE, p->sequence, SEQUENCE_MOST);
+    memcpy(bytes + AT_FCB, p->fcb, FCB_MOST);
 }
 
 /* Bytes not in use are 00, so that one printer has one state; a store is never longer than the legends here. */

@@ -1,0 +1,23 @@
+/* The library's exports as types: another program that plays the printer is declared by them, and called through the same pointers. */
+#ifndef EXPORTS_H
+#define EXPORTS_H
+
+#include "../include/trestlepip.h"
+
+typedef __typeof__(trestlepip_start) start_call;
+typedef __typeof__(trestlepip_command) command_call;
+typedef __typeof__(trestlepip_compose) compose_call;
+typedef __typeof__(trestlepip_release) release_call;
+
+/* The calls of one program. */
+struct exports {
+    start_call *start;
+    command_call *command;
+    compose_call *compose;
+    release_call *release;
+};
+
+/* Those whose names begin so. */
+#define EXPORTS(name) { name##_start, name##_command, name##_compose, name##_release }
+
+#endif
