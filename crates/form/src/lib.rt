@@ -1,10 +1,6 @@
 // Document 01, "Form and forms control".
 pub mod fcb;
 
-ghost use mathlib.Core.Path.{_≡_};
-ghost use Prim.Native.Nat.{_+_, _*_, _≤_};
-ghost use Rattle.form.specs.Form.{mostUnits, halfInch, startFcb, fcbSize, formsOf};
-
 // What one pass over an FCB finds: whether a channel or a spacing is bad, the units in all, whether an edge half inch has a channel,
 // the lines that start in the first half inch, and the printable ones.
 pub struct Layout {
@@ -25,19 +21,6 @@ pub struct Forms {
 impl Forms {
     // The longest FCB.
     pub const FCB_BYTES: usize = 144;
-
-    // The starting FCB: 6 lines per inch, of 4 units each, and channel 1 at line 1, the fourth line.
-    pub fn start(length: u16) -> Forms
-        requires { ⌜ (halfInch + mostUnits ≤ length) × (length ≤ mostUnits * fcbSize) ⌝ }
-        ensures { λ r. ⌜ r ≡ formsOf (startFcb length) ⌝ }
-    {
-        let mut fcb = [0u8; Forms::FCB_BYTES];
-        fcb[3] = 1;
-        Forms {
-            fcb: fcb,
-            count: (length / 4) as u8,
-        }
-    }
 }
 
 // What is found of an FCB in its array: whether its count and the 00 after it are in range, and the form that it lays out.

@@ -1,6 +1,6 @@
 -- Laws of the checks and of the table of numbers.
-use Prim.Native.Nat.{ℕ}
-use lib.Dec.{eqb}
+use Prim.Native.Nat.{ℕ, _≤_}
+use lib.Dec.{eqb, lit≤}
 use mathlib.Core.Path.{_≡_, refl, sym, ap, _∙_}
 use mathlib.Core.Bool.{Bool, true, false, true≢false, false≢true}
 use mathlib.Core.Option.{Option}
@@ -52,6 +52,20 @@ isAnew NoSense = false
 abbrev pub tells : Refusal → Bool
 tells x = listed (1 ∷ 3 ∷ 5 ∷ []) (numberOf x)
 
+-- every cause's number is small
+cause-most : (n : ℕ) (c : Cause) → causeOf n c .number ≤ 10
+unfolding causeOf
+cause-most n FcbChannel = lit≤ tt
+cause-most n FcbSpacing = lit≤ tt
+cause-most n FcbSum = lit≤ tt
+cause-most n FcbEdge = lit≤ tt
+cause-most n TableShort = lit≤ tt
+cause-most n SequencePairs = lit≤ tt
+cause-most n SequenceCounts = lit≤ tt
+cause-most n NumberRecord = lit≤ tt
+cause-most n SegmentEnds = lit≤ tt
+cause-most n SegmentFields = lit≤ tt
+
 -- What is known of every row, for any two byte counts: one list of the refusals is enough for all of it.
 pub record Facts (n m : ℕ) (x : Refusal) : Type 0 where
   -- number 0 is that of Accepted alone
@@ -60,23 +74,27 @@ pub record Facts (n m : ℕ) (x : Refusal) : Type 0 where
   pub check : eqb (rowOf n x .status) 0x0E ≡ tells x
   -- the others keep it, except a refused Start, which leaves none
   pub keeps : tells x ≡ false → eqb (numberOf x) 10 ≡ false → rowOf n x .sense ≡ Keep
+  -- number, status and cause fit their fields of a packed answer
+  pub numberMost : numberOf x ≤ 11
+  pub statusMost : rowOf n x .status ≤ 16
+  pub causeMost : rowOf n x .cause ≤ 10
   -- the number is the same for all records, and so is the row, but for a load check, whose sense can show the record's byte count
   pub same : ((c : Cause) → x ≡ LoadCheck c → n ≡ m) → rowOf n x ≡ rowOf m x
 
-facts : (n m : ℕ) (x : Refusal) → Facts n m x
+pub facts : (n m : ℕ) (x : Refusal) → Facts n m x
 unfolding rowOf isAccepted
-facts n m Accepted = record { zero = λ e. refl; anew = refl; check = refl; keeps = λ t f. refl; same = λ h. refl }
-facts n m NotListed = record { zero = λ e. absurd (false≢true e); anew = refl; check = refl; keeps = λ t f. absurd (true≢false t); same = λ h. refl }
-facts n m BadRecord = record { zero = λ e. absurd (false≢true e); anew = refl; check = refl; keeps = λ t f. refl; same = λ h. refl }
-facts n m (LoadCheck c) = record { zero = λ e. absurd (false≢true e); anew = refl; check = refl; keeps = λ t f. absurd (true≢false t); same = λ h. rw (h c refl) }
-facts n m PageWaiting = record { zero = λ e. absurd (false≢true e); anew = refl; check = refl; keeps = λ t f. refl; same = λ h. refl }
-facts n m PageStarted = record { zero = λ e. absurd (false≢true e); anew = refl; check = refl; keeps = λ t f. absurd (true≢false t); same = λ h. refl }
-facts n m NoPage = record { zero = λ e. absurd (false≢true e); anew = refl; check = refl; keeps = λ t f. refl; same = λ h. refl }
-facts n m BadIndex = record { zero = λ e. absurd (false≢true e); anew = refl; check = refl; keeps = λ t f. refl; same = λ h. refl }
-facts n m TooShort = record { zero = λ e. absurd (false≢true e); anew = refl; check = refl; keeps = λ t f. refl; same = λ h. refl }
-facts n m BadStore = record { zero = λ e. absurd (false≢true e); anew = refl; check = refl; keeps = λ t f. refl; same = λ h. refl }
-facts n m BadForm = record { zero = λ e. absurd (false≢true e); anew = refl; check = refl; keeps = λ t f. absurd (true≢false f); same = λ h. refl }
-facts n m TwoPages = record { zero = λ e. absurd (false≢true e); anew = refl; check = refl; keeps = λ t f. refl; same = λ h. refl }
+facts n m Accepted = record { zero = λ e. refl; anew = refl; check = refl; keeps = λ t f. refl; numberMost = lit≤ tt; statusMost = lit≤ tt; causeMost = lit≤ tt; same = λ h. refl }
+facts n m NotListed = record { zero = λ e. absurd (false≢true e); anew = refl; check = refl; keeps = λ t f. absurd (true≢false t); numberMost = lit≤ tt; statusMost = lit≤ tt; causeMost = lit≤ tt; same = λ h. refl }
+facts n m BadRecord = record { zero = λ e. absurd (false≢true e); anew = refl; check = refl; keeps = λ t f. refl; numberMost = lit≤ tt; statusMost = lit≤ tt; causeMost = lit≤ tt; same = λ h. refl }
+facts n m (LoadCheck c) = record { zero = λ e. absurd (false≢true e); anew = refl; check = refl; keeps = λ t f. absurd (true≢false t); numberMost = lit≤ tt; statusMost = lit≤ tt; causeMost = cause-most n c; same = λ h. rw (h c refl) }
+facts n m PageWaiting = record { zero = λ e. absurd (false≢true e); anew = refl; check = refl; keeps = λ t f. refl; numberMost = lit≤ tt; statusMost = lit≤ tt; causeMost = lit≤ tt; same = λ h. refl }
+facts n m PageStarted = record { zero = λ e. absurd (false≢true e); anew = refl; check = refl; keeps = λ t f. absurd (true≢false t); numberMost = lit≤ tt; statusMost = lit≤ tt; causeMost = lit≤ tt; same = λ h. refl }
+facts n m NoPage = record { zero = λ e. absurd (false≢true e); anew = refl; check = refl; keeps = λ t f. refl; numberMost = lit≤ tt; statusMost = lit≤ tt; causeMost = lit≤ tt; same = λ h. refl }
+facts n m BadIndex = record { zero = λ e. absurd (false≢true e); anew = refl; check = refl; keeps = λ t f. refl; numberMost = lit≤ tt; statusMost = lit≤ tt; causeMost = lit≤ tt; same = λ h. refl }
+facts n m TooShort = record { zero = λ e. absurd (false≢true e); anew = refl; check = refl; keeps = λ t f. refl; numberMost = lit≤ tt; statusMost = lit≤ tt; causeMost = lit≤ tt; same = λ h. refl }
+facts n m BadStore = record { zero = λ e. absurd (false≢true e); anew = refl; check = refl; keeps = λ t f. refl; numberMost = lit≤ tt; statusMost = lit≤ tt; causeMost = lit≤ tt; same = λ h. refl }
+facts n m BadForm = record { zero = λ e. absurd (false≢true e); anew = refl; check = refl; keeps = λ t f. absurd (true≢false f); numberMost = lit≤ tt; statusMost = lit≤ tt; causeMost = lit≤ tt; same = λ h. refl }
+facts n m TwoPages = record { zero = λ e. absurd (false≢true e); anew = refl; check = refl; keeps = λ t f. refl; numberMost = lit≤ tt; statusMost = lit≤ tt; causeMost = lit≤ tt; same = λ h. refl }
 
 pub accepted-is : (x : Refusal) → isAccepted x ≡ true → x ≡ Accepted
 accepted-is x = facts 0 0 x .zero

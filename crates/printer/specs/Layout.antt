@@ -47,12 +47,12 @@ abbrev pub dueAt : ℕ
 dueAt = waitingAt + 1
 
 -- The sense bytes that are kept: 0, 1, 2, 22 and 23.
-abbrev pub senseAt : ℕ
-senseAt = dueAt + 1
+abbrev pub sense0At : ℕ
+sense0At = dueAt + 1
 
 -- The two arrays.
 abbrev pub pairsAt : ℕ
-pairsAt = senseAt + 5
+pairsAt = sense0At + 5
 
 abbrev pub fcbAt : ℕ
 fcbAt = pairsAt + pairSize

@@ -38,9 +38,9 @@ impl Printer {
 
     pub const DUE_AT: usize = Printer::WAITING_AT + 1;
 
-    pub const SENSE_AT: usize = Printer::DUE_AT + 1;
+    pub const SENSE0_AT: usize = Printer::DUE_AT + 1;
 
-    pub const PAIRS_AT: usize = Printer::SENSE_AT + 5;
+    pub const PAIRS_AT: usize = Printer::SENSE0_AT + 5;
 
     pub const FCB_AT: usize = Printer::PAIRS_AT + Copies::PAIR_BYTES;
 

@@ -1,3 +1,3 @@
 pub mod Round
-pub mod Fields
 pub mod Parts
+pub mod Fields

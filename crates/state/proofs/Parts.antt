@@ -9,10 +9,12 @@ use Rattle.form.specs.Form.{formOk, formsInRange}
 use Rattle.line.specs.Line.{slotsInRange}
 use Rattle.copies.specs.Copies.{copiesInRange}
 use Rattle.legends.specs.Legends.{legendsOk}
-use Rattle.calls.specs.Core.{Stores, State, sizesOk, P}
+use Rattle.calls.specs.declared.State.{State}
+use Rattle.calls.specs.Core.{Stores, sizesOk, P}
 use Rattle.calls.specs.Contents.{lineOk, rangesOk, dueOk, markOk, formsOk, sequenceOk, coreOk}
 use Rattle.seq.proofs.Laws.{and-left, and-right}
-use Rattle.state.specs.State.{stateSize, stateAt, coreAt, readable}
+use Rattle.printer.specs.Layout.{stateSize}
+use Rattle.state.specs.State.{stateAt, coreAt, readable}
 use Rattle.state.proofs.Round.{readable-size}
 use Rattle.state.specs.Contents.{soundBytes, stateOk, fieldsOk, copiesOk, formsLineOk}
 

@@ -6,7 +6,8 @@ use Rattle.seq.specs.Words.{every}
 use Rattle.form.specs.Form.{formOk, formsInRange}
 use Rattle.line.specs.Line.{slotsInRange}
 use Rattle.copies.specs.Copies.{copiesInRange}
-use Rattle.calls.specs.Core.{Stores, State, P}
+use Rattle.calls.specs.declared.State.{State}
+use Rattle.calls.specs.Core.{Stores, P}
 use Rattle.calls.specs.Contents.{lineOk, rangesOk, dueOk, markOk, formsOk, sequenceOk, coreOk}
 use Rattle.state.specs.State.{readable, coreAt}
 

@@ -1,25 +1,23 @@
--- docs/STATE.md: a printer's state as bytes, its fields in that page's order, and the printer that bytes stand for.
+-- docs/STATE.md: a printer's state as bytes, its fields in the order of the places that the printer's Layout gives them; and the printer that bytes stand
+-- for.
 use Prim.Native.Nat.{ℕ, _+_, _*_, _/_, _%_}
-use mathlib.Core.Bool.{Bool, false}
+use mathlib.Core.Path.{_≡_}
+use mathlib.Core.Bool.{Bool, true, false}
 use mathlib.Core.List.{List, [], _∷_, _++_}
 use lib.Dec.{eqb, leb}
 use lib.ListN.{length, take, drop, getD}
 use mir.Val.{boolByte}
 use Rattle.seq.specs.Words.{all, every}
-use Rattle.numbers.specs.declared.Answer.{Answer}
 use Rattle.numbers.specs.declared.Sense.{Sense}
 use Rattle.form.specs.Form.{fcbSize}
 use Rattle.copies.specs.Copies.{pairSize}
 use Rattle.calls.specs.declared.Sheet.{Sheet}
-use Rattle.calls.specs.Core.{Stores, State, Core, World}
-use Rattle.calls.specs.Calls.{Outcome}
+use Rattle.calls.specs.declared.State.{State}
+use Rattle.calls.specs.Core.{Stores, Core, World, withSheet}
 use Rattle.printer.specs.declared.Printer.{Printer}
-use Rattle.printer.specs.Whole.{keptSize}
+use Rattle.printer.specs.Layout.{lengthAt, pitchesAt, blockedAt, fcbCountAt, loadedAt, selectedAt, pairCountAt, referenceAt, sheetAt, writtenAt, waitingAt, dueAt, sense0At, pairsAt, fcbAt, stateSize}
 
-abbrev pub stateSize : ℕ
-stateSize = 184
-
--- Bytes 0 to 14: all that most commands leave as it is. A flag is 1 or 0.
+-- Up to the sheet: all that most commands leave as it is. A flag is 1 or 0.
 abbrev pub frontBytes : State → List ℕ
 frontBytes s =
     s .fixed .length / 256
@@ -39,7 +37,7 @@ frontBytes s =
     ∷ s .copies .reference
     ∷ []
 
--- Bytes 15 to 23: the sheet and the sense.
+-- The sheet and the sense.
 abbrev pub sheetBytes : Sheet → Sense → List ℕ
 sheetBytes x q =
     x .line
@@ -53,13 +51,16 @@ sheetBytes x q =
     ∷ q .b23
     ∷ []
 
--- Both: all but the two large arrays.
+-- Both: all but the two arrays.
 abbrev pub smallBytes : State → Sense → List ℕ
 smallBytes s q = frontBytes s ++ sheetBytes (s .sheet) q
 
--- All 184: then the overlay sequence's pairs, from 24 on, and the FCB's bytes, from 40 on.
+-- And all: then the overlay sequence's pairs and the FCB's bytes.
 unfoldable pub bytesOf : State → Sense → List ℕ
 bytesOf s q = smallBytes s q ++ (s .copies .pairs ++ s .forms .fcb)
+
+abbrev pub printerBytes : Printer → List ℕ
+printerBytes p = bytesOf (p .state) (p .sense)
 
 -- The other way: the state and the sense that bytes stand for.
 abbrev pub byteAt : List ℕ → ℕ → ℕ
@@ -71,16 +72,34 @@ flagAt s n = eqb (byteAt s n) 1
 unfoldable pub stateAt : List ℕ → State
 stateAt s =
     record {
-      fixed = record { length = byteAt s 0 * 256 + byteAt s 1; pitches = byteAt s 2 ∷ byteAt s 3 ∷ byteAt s 4 ∷ byteAt s 5 ∷ [] };
-      blocked = flagAt s 6;
-      forms = record { fcb = take fcbSize (drop 40 s); count = byteAt s 7 };
-      slots = record { loaded = flagAt s 8 ∷ flagAt s 9 ∷ flagAt s 10 ∷ flagAt s 11 ∷ []; selected = byteAt s 12 };
-      copies = record { pairs = take pairSize (drop 24 s); count = byteAt s 13; reference = byteAt s 14 };
-      sheet = record { line = byteAt s 15; written = flagAt s 16; waiting = flagAt s 17; due = flagAt s 18 };
+      fixed =
+          record {
+            length = byteAt s lengthAt * 256 + byteAt s (lengthAt + 1);
+            pitches = byteAt s pitchesAt ∷ byteAt s (pitchesAt + 1) ∷ byteAt s (pitchesAt + 2) ∷ byteAt s (pitchesAt + 3) ∷ [];
+          };
+      blocked = flagAt s blockedAt;
+      forms = record { fcb = take fcbSize (drop fcbAt s); count = byteAt s fcbCountAt };
+      slots =
+          record {
+            loaded = flagAt s loadedAt ∷ flagAt s (loadedAt + 1) ∷ flagAt s (loadedAt + 2) ∷ flagAt s (loadedAt + 3) ∷ [];
+            selected = byteAt s selectedAt;
+          };
+      copies = record { pairs = take pairSize (drop pairsAt s); count = byteAt s pairCountAt; reference = byteAt s referenceAt };
+      sheet = record { line = byteAt s sheetAt; written = flagAt s writtenAt; waiting = flagAt s waitingAt; due = flagAt s dueAt };
     }
 
 unfoldable pub senseAt : List ℕ → Sense
-senseAt s = record { b0 = byteAt s 19; b1 = byteAt s 20; b2 = byteAt s 21; b22 = byteAt s 22; b23 = byteAt s 23 }
+senseAt s =
+    record {
+      b0 = byteAt s sense0At;
+      b1 = byteAt s (sense0At + 1);
+      b2 = byteAt s (sense0At + 2);
+      b22 = byteAt s (sense0At + 3);
+      b23 = byteAt s (sense0At + 4);
+    }
+
+abbrev pub printerAt : List ℕ → Printer
+printerAt s = record { state = stateAt s; sense = senseAt s }
 
 abbrev pub coreAt : List ℕ → Stores → Core
 coreAt s m = record { state = stateAt s; stores = m }
@@ -90,44 +109,17 @@ worldAt s m = record { core = coreAt s m; sense = senseAt s }
 
 -- Bytes that stand for a printer: as many as a state has, and each flag 0 or 1. Every other range is the printer's own to judge.
 abbrev pub flagPlaces : List ℕ
-flagPlaces = 6 ∷ 8 ∷ 9 ∷ 10 ∷ 11 ∷ 16 ∷ 17 ∷ 18 ∷ []
+flagPlaces = blockedAt ∷ loadedAt ∷ loadedAt + 1 ∷ loadedAt + 2 ∷ loadedAt + 3 ∷ writtenAt ∷ waitingAt ∷ dueAt ∷ []
 
 unfoldable pub readable : List ℕ → Bool
 readable s = every (eqb (length s) stateSize ∷ all (λ n. leb (byteAt s n) 1) flagPlaces ∷ [])
 
--- A state with another sheet and another sense: bytes 15 to 23 replaced.
-abbrev pub sheetOver : List ℕ → Sheet → Sense → List ℕ
-sheetOver s x q = take 15 s ++ (sheetBytes x q ++ drop 9 (drop 15 s))
+-- What a printer may differ in from the one that bytes stand for, where only a part of it is put back: in its sheet and its sense; in all but its arrays.
+pub record OwnSheet (p : Printer) (s : List ℕ) : Type 0 where
+  pub read : readable s ≡ true
+  pub same : p .state ≡ withSheet (stateAt s) (p .state .sheet)
 
--- The printer by value, which leaves its two arrays in these bytes.
-abbrev pub printerOf : List ℕ → Printer
-printerOf s =
-    record {
-      fixed = stateAt s .fixed;
-      blocked = stateAt s .blocked;
-      fcb = stateAt s .forms .count;
-      slots = stateAt s .slots;
-      pairs = stateAt s .copies .count;
-      reference = stateAt s .copies .reference;
-      sheet = stateAt s .sheet;
-      sense = senseAt s;
-    }
-
-abbrev pub keptAt : List ℕ → List ℕ
-keptAt s = take keptSize (drop 24 s)
-
--- What a call leaves, with the printer as bytes: its answer, its buffer, the state's bytes and the stores.
-pub record Left : Type 0 where
-  pub answer : Answer
-  pub buffer : List ℕ
-  pub state : List ℕ
-  pub stores : Stores
-
-abbrev pub left : Answer → List ℕ → List ℕ → Stores → Left
-left answer buffer s m = record { answer = answer; buffer = buffer; state = s; stores = m }
-
-abbrev pub bytesIn : World → List ℕ
-bytesIn w = bytesOf (w .core .state) (w .sense)
-
-abbrev pub leftBy : Outcome → Left
-leftBy o = left (o .answer) (o .buffer) (bytesIn (o .world)) (o .world .core .stores)
+pub record SameArrays (p : Printer) (s : List ℕ) : Type 0 where
+  pub read : readable s ≡ true
+  pub pairs : p .state .copies .pairs ≡ stateAt s .copies .pairs
+  pub fcb : p .state .forms .fcb ≡ stateAt s .forms .fcb

@@ -5,26 +5,7 @@ ghost use mathlib.Core.Path.{_≡_};
 ghost use Prim.Native.Nat.{_+_, _*_};
 ghost use Rattle.numbers.specs.declared.Refusal.the-variants.{BadStore};
 ghost use Rattle.numbers.specs.Numbers.{only};
-ghost use Rattle.state.specs.Packed.{causeNumber, packed};
-
-fn cause_number(refusal: Refusal) -> u8
-    ensures { λ r. ⌜ r ≡ causeNumber refusal ⌝ }
-{
-    match refusal {
-        Refusal::Accepted => 0,
-        Refusal::NotListed => 0,
-        Refusal::BadRecord => 0,
-        Refusal::LoadCheck(cause) => cause.number(),
-        Refusal::PageWaiting => 0,
-        Refusal::PageStarted => 0,
-        Refusal::NoPage => 0,
-        Refusal::BadIndex => 0,
-        Refusal::TooShort => 0,
-        Refusal::BadStore => 0,
-        Refusal::BadForm => 0,
-        Refusal::TwoPages => 0,
-    }
-}
+ghost use Rattle.state.specs.Packed.{packed};
 
 fn join(number: u8, status: u8, ready: u8, mark: u8, cause: u8, lines: u8, copy: u16) -> u64
     ensures { λ r. ⌜ r ≡ number + status * 0x100 + ready * 0x10000 + mark * 0x20000 + cause * 0x40000 + lines * 0x1000000 + copy * 0x100000000 ⌝ }
@@ -42,12 +23,13 @@ pub fn pack(a: Answer) -> u64
     ensures { λ r. ⌜ r ≡ packed a ⌝ }
 {
     let refusal = a.refusal;
+    let row = refusal.row(0);
     join(
-        refusal.number(),
+        row.number,
         a.status,
         seq::flag(a.ready, 1),
         a.mark,
-        cause_number(refusal),
+        row.cause,
         a.lines,
         a.copy,
     )
@@ -57,12 +39,5 @@ pub fn pack(a: Answer) -> u64
 pub fn unread() -> u64
     ensures { λ r. ⌜ r ≡ packed (only BadStore 0) ⌝ }
 {
-    pack(Answer {
-        refusal: Refusal::BadStore,
-        status: 0,
-        ready: false,
-        lines: 0,
-        copy: 0,
-        mark: 0,
-    })
+    pack(Answer::only(Refusal::BadStore, 0))
 }

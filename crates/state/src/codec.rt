@@ -1,105 +1,162 @@
 // docs/STATE.md: the state's bytes, and back.
 use calls::Fixed;
 use calls::Sheet;
+use calls::State;
+use copies::Copies;
+use form::Forms;
 use line::Slots;
+use numbers::Answer;
 use numbers::Sense;
 use printer::Printer;
+use printer::Step;
 ghost use mathlib.Core.Path.{_≡_};
-ghost use Prim.Native.Nat.{ℕ, _+_, _*_};
-ghost use mathlib.Core.List.{List, _++_};
-ghost use lib.ListN.{length, drop};
+ghost use Prim.Native.Nat.{_+_, _*_};
+ghost use mathlib.Core.List.{_++_};
+ghost use lib.ListN.{length, take, drop};
 ghost use lib.Dec.{leb};
 ghost use Rattle.seq.specs.Words.{all};
-ghost use Rattle.printer.specs.Whole.{stateOf};
-ghost use Rattle.state.specs.State.{frontBytes, smallBytes, byteAt, printerOf, flagPlaces, readable, stateAt, sheetOver};
-
-pub const STATE_BYTES: usize = 184;
+ghost use Rattle.form.specs.Form.{fcbSize};
+ghost use Rattle.copies.specs.Copies.{pairSize};
+ghost use Rattle.printer.specs.Layout.{pairsAt, fcbAt, sheetAt, stateSize};
+ghost use Rattle.state.specs.State.{frontBytes, sheetBytes, smallBytes, printerBytes, byteAt, flagPlaces, readable, stateAt, printerAt};
+ghost use Rattle.state.specs.State.{OwnSheet, SameArrays};
 
 // Each flag is 0 or 1.
 fn flags_ok(s: &[u8]) -> bool
-    requires { ⌜ length (now s) ≡ 184 ⌝ }
+    requires { ⌜ length (now s) ≡ stateSize ⌝ }
     ensures { λ r. ⌜ r ≡ all (λ n. leb (byteAt (now (s .entry)) n) 1) flagPlaces ⌝ }
 {
-    (s[6] <= 1)
-        & ((s[8] <= 1)
-            & ((s[9] <= 1)
-                & ((s[10] <= 1) & ((s[11] <= 1) & ((s[16] <= 1) & ((s[17] <= 1) & (s[18] <= 1)))))))
+    (s[Printer::BLOCKED_AT] <= 1)
+        & ((s[Printer::LOADED_AT] <= 1)
+            & ((s[Printer::LOADED_AT + 1] <= 1)
+                & ((s[Printer::LOADED_AT + 2] <= 1)
+                    & ((s[Printer::LOADED_AT + 3] <= 1)
+                        & ((s[Printer::WRITTEN_AT] <= 1)
+                            & ((s[Printer::WAITING_AT] <= 1) & (s[Printer::DUE_AT] <= 1)))))))
 }
 
 // Whether bytes stand for a printer.
 pub(crate) fn is_readable(s: &[u8]) -> bool
     ensures { λ r. ⌜ r ≡ readable (now (s .entry)) ⌝ }
 {
-    if s.len() != STATE_BYTES {
+    if s.len() != Printer::STATE_BYTES {
         return false;
     }
     flags_ok(s)
 }
 
 // A number of two bytes, high byte first.
-pub(crate) fn pair(high: u8, low: u8) -> u16
+fn pair(high: u8, low: u8) -> u16
     ensures { λ r. ⌜ r ≡ high * 256 + low ⌝ }
 {
     (high as u16) * 256 + (low as u16)
 }
 
-// The form length, and what is known of the sheet: all that the order of a command's refusals asks of a state.
-pub fn form_length(s: &[u8]) -> u16
-    requires { ⌜ length (now s) ≡ 184 ⌝ }
-    ensures { λ r. ⌜ r ≡ stateAt (now (s .entry)) .fixed .length ⌝ }
+// What Start fixed, and the sheet: all that the order of a command's refusals asks of a state.
+pub fn fixed(s: &[u8]) -> Fixed
+    requires { ⌜ length (now s) ≡ stateSize ⌝ }
+    ensures { λ r. ⌜ r ≡ stateAt (now (s .entry)) .fixed ⌝ }
 {
-    pair(s[0], s[1])
+    Fixed {
+        length: pair(s[Printer::LENGTH_AT], s[Printer::LENGTH_AT + 1]),
+        pitches: [
+            s[Printer::PITCHES_AT],
+            s[Printer::PITCHES_AT + 1],
+            s[Printer::PITCHES_AT + 2],
+            s[Printer::PITCHES_AT + 3],
+        ],
+    }
 }
 
 pub fn sheet(s: &[u8]) -> Sheet
-    requires { ⌜ length (now s) ≡ 184 ⌝ }
+    requires { ⌜ length (now s) ≡ stateSize ⌝ }
     ensures { λ r. ⌜ r ≡ stateAt (now (s .entry)) .sheet ⌝ }
 {
     Sheet {
-        line: s[15],
-        written: s[16] == 1,
-        waiting: s[17] == 1,
-        due: s[18] == 1,
+        line: s[Printer::SHEET_AT],
+        written: s[Printer::WRITTEN_AT] == 1,
+        waiting: s[Printer::WAITING_AT] == 1,
+        due: s[Printer::DUE_AT] == 1,
     }
 }
 
-// The printer that bytes stand for; its two arrays stay in them.
-pub fn decode(s: &[u8]) -> Printer
-    requires { ⌜ length (now s) ≡ 184 ⌝ }
-    ensures { λ r. ⌜ r ≡ printerOf (now (s .entry)) ⌝ }
+fn forms(s: &[u8]) -> Forms
+    requires { ⌜ length (now s) ≡ stateSize ⌝ }
+    ensures { λ r. ⌜ r ≡ stateAt (now (s .entry)) .forms ⌝ }
 {
-    let fixed = Fixed {
-        length: form_length(s),
-        pitches: [s[2], s[3], s[4], s[5]],
-    };
-    let slots = Slots {
-        loaded: [s[8] == 1, s[9] == 1, s[10] == 1, s[11] == 1],
-        selected: s[12],
-    };
-    let sense = Sense {
-        b0: s[19],
-        b1: s[20],
-        b2: s[21],
-        b22: s[22],
-        b23: s[23],
+    let mut fcb = [0u8; Forms::FCB_BYTES];
+    seq::copy_all(&mut fcb, &s[Printer::FCB_AT..Printer::STATE_BYTES]);
+    Forms {
+        fcb: fcb,
+        count: s[Printer::FCB_COUNT_AT],
+    }
+}
+
+fn slots(s: &[u8]) -> Slots
+    requires { ⌜ length (now s) ≡ stateSize ⌝ }
+    ensures { λ r. ⌜ r ≡ stateAt (now (s .entry)) .slots ⌝ }
+{
+    Slots {
+        loaded: [
+            s[Printer::LOADED_AT] == 1,
+            s[Printer::LOADED_AT + 1] == 1,
+            s[Printer::LOADED_AT + 2] == 1,
+            s[Printer::LOADED_AT + 3] == 1,
+        ],
+        selected: s[Printer::SELECTED_AT],
+    }
+}
+
+fn copies(s: &[u8]) -> Copies
+    requires { ⌜ length (now s) ≡ stateSize ⌝ }
+    ensures { λ r. ⌜ r ≡ stateAt (now (s .entry)) .copies ⌝ }
+{
+    let mut pairs = [0u8; Copies::PAIR_BYTES];
+    seq::copy_all(&mut pairs, &s[Printer::PAIRS_AT..Printer::FCB_AT]);
+    Copies {
+        pairs: pairs,
+        count: s[Printer::PAIR_COUNT_AT],
+        reference: s[Printer::REFERENCE_AT],
+    }
+}
+
+fn sense(s: &[u8]) -> Sense
+    requires { ⌜ length (now s) ≡ stateSize ⌝ }
+    ensures { λ r. ⌜ r ≡ printerAt (now (s .entry)) .sense ⌝ }
+{
+    Sense {
+        b0: s[Printer::SENSE0_AT],
+        b1: s[Printer::SENSE0_AT + 1],
+        b2: s[Printer::SENSE0_AT + 2],
+        b22: s[Printer::SENSE0_AT + 3],
+        b23: s[Printer::SENSE0_AT + 4],
+    }
+}
+
+// The printer that bytes stand for.
+pub fn decode(s: &[u8]) -> Printer
+    requires { ⌜ length (now s) ≡ stateSize ⌝ }
+    ensures { λ r. ⌜ r ≡ printerAt (now (s .entry)) ⌝ }
+{
+    let state = State {
+        fixed: fixed(s),
+        blocked: s[Printer::BLOCKED_AT] == 1,
+        forms: forms(s),
+        slots: slots(s),
+        copies: copies(s),
+        sheet: sheet(s),
     };
     Printer {
-        fixed: fixed,
-        blocked: s[6] == 1,
-        fcb: s[7],
-        slots: slots,
-        pairs: s[13],
-        reference: s[14],
-        sheet: sheet(s),
-        sense: sense,
+        state: state,
+        sense: sense(s),
     }
 }
 
-fn front_bytes(p: Printer) -> [u8; 15]
-    ensures { λ r. ⌜ ((k : List ℕ) → r ≡ frontBytes (stateOf p k)) ⌝ }
+fn front_bytes(state: State) -> [u8; Printer::SHEET_AT]
+    ensures { λ r. ⌜ r ≡ frontBytes state ⌝ }
 {
-    let fixed = p.fixed;
-    let slots = p.slots;
+    let fixed = state.fixed;
+    let slots = state.slots;
     [
         (fixed.length / 256) as u8,
         (fixed.length % 256) as u8,
@@ -107,22 +164,22 @@ fn front_bytes(p: Printer) -> [u8; 15]
         fixed.pitches[1],
         fixed.pitches[2],
         fixed.pitches[3],
-        p.blocked as u8,
-        p.fcb,
+        state.blocked as u8,
+        state.forms.count,
         slots.loaded[0] as u8,
         slots.loaded[1] as u8,
         slots.loaded[2] as u8,
         slots.loaded[3] as u8,
         slots.selected,
-        p.pairs,
-        p.reference,
+        state.copies.count,
+        state.copies.reference,
     ]
 }
 
-// The sheet and the sense alone, over a state that is otherwise as it was: what most commands change at most.
-pub fn put_sheet(sheet: Sheet, sense: Sense, s: &mut [u8])
-    requires { ⌜ length (now s) ≡ 184 ⌝ }
-    ensures { λ _. ⌜ now (s .exit) ≡ sheetOver (now (s .entry)) sheet sense ⌝ }
+// The bytes of the sheet and the sense, over their places.
+fn lay_sheet(sheet: Sheet, sense: Sense, s: &mut [u8])
+    requires { ⌜ length (now s) ≡ stateSize ⌝ }
+    ensures { λ _. ⌜ now (s .exit) ≡ take sheetAt (now (s .entry)) ++ (sheetBytes sheet sense ++ drop pairsAt (now (s .entry))) ⌝ }
 {
     let bytes = [
         sheet.line,
@@ -135,15 +192,61 @@ pub fn put_sheet(sheet: Sheet, sense: Sense, s: &mut [u8])
         sense.b22,
         sense.b23,
     ];
-    seq::copy_all(&mut s[15..24], &bytes);
+    seq::copy_all(&mut s[Printer::SHEET_AT..Printer::PAIRS_AT], &bytes);
 }
 
-// The bytes of a printer, over the front of s; its arrays are in s already.
-pub fn encode(p: Printer, s: &mut [u8])
-    requires { ⌜ length (now s) ≡ 184 ⌝ }
-    ensures { λ _. ⌜ ((k : List ℕ) → now (s .exit) ≡ smallBytes (stateOf p k) (p .sense) ++ drop 24 (now (s .entry))) ⌝ }
+// The bytes of all but the arrays.
+fn lay_small(p: Printer, s: &mut [u8])
+    requires { ⌜ length (now s) ≡ stateSize ⌝ }
+    ensures { λ _. ⌜ now (s .exit) ≡ smallBytes (p .state) (p .sense) ++ drop pairsAt (now (s .entry)) ⌝ }
 {
-    let front = front_bytes(p);
-    seq::copy_all(&mut s[0..15], &front);
-    put_sheet(p.sheet, p.sense, s);
+    let state = p.state;
+    let front = front_bytes(state);
+    seq::copy_all(&mut s[0..Printer::SHEET_AT], &front);
+    lay_sheet(state.sheet, p.sense, s);
+}
+
+// The bytes of both arrays.
+fn lay_arrays(forms: Forms, copies: Copies, s: &mut [u8])
+    requires { ⌜ length (now s) ≡ stateSize ⌝ }
+    ensures { λ _. ⌜ now (s .exit) ≡ take pairsAt (now (s .entry)) ++ (copies .pairs ++ forms .fcb) ⌝ }
+{
+    let pairs = copies.pairs;
+    let fcb = forms.fcb;
+    seq::copy_all(&mut s[Printer::PAIRS_AT..Printer::FCB_AT], &pairs);
+    seq::copy_all(&mut s[Printer::FCB_AT..Printer::STATE_BYTES], &fcb);
+}
+
+// A step's printer back into the state, where no more than its sheet and its sense can have changed: nine bytes.
+pub fn put_sheet(step: Step, s: &mut [u8]) -> Answer
+    requires { ⌜ OwnSheet (step .printer) (now s) ⌝ }
+    ensures answer { λ r. ⌜ r ≡ step .answer ⌝ }
+    ensures state { λ _. ⌜ now (s .exit) ≡ printerBytes (step .printer) ⌝ }
+{
+    let p = step.printer;
+    lay_sheet(p.state.sheet, p.sense, s);
+    step.answer
+}
+
+// Where its arrays cannot have changed.
+pub fn put_small(step: Step, s: &mut [u8]) -> Answer
+    requires { ⌜ SameArrays (step .printer) (now s) ⌝ }
+    ensures answer { λ r. ⌜ r ≡ step .answer ⌝ }
+    ensures state { λ _. ⌜ now (s .exit) ≡ printerBytes (step .printer) ⌝ }
+{
+    lay_small(step.printer, s);
+    step.answer
+}
+
+// And where any field can have changed.
+pub fn put_all(step: Step, s: &mut [u8]) -> Answer
+    requires { ⌜ length (now s) ≡ stateSize ⌝ }
+    ensures answer { λ r. ⌜ r ≡ step .answer ⌝ }
+    ensures state { λ _. ⌜ now (s .exit) ≡ printerBytes (step .printer) ⌝ }
+{
+    let p = step.printer;
+    let state = p.state;
+    lay_arrays(state.forms, state.copies, s);
+    lay_small(p, s);
+    step.answer
 }

@@ -1,19 +1,19 @@
-// Document 01, "Numbers", 9: what is lent, judged as it lies there.
-use crate::state;
-use form::Kept;
+// Document 01, "Numbers", 9: what is lent, judged as it lies there, before anything of it is decoded.
+use crate::codec;
+use form::Judged;
 use form::Layout;
+use printer::Printer;
 ghost use mathlib.Core.Path.{_≡_};
 ghost use mathlib.Core.Bool.{true, _&&_};
-ghost use mathlib.Core.List.{List, [], _∷_};
-ghost use Prim.Native.Nat.{ℕ, _+_, _*_};
 ghost use lib.ListN.{length};
 ghost use Rattle.form.specs.Form.{formOk, formsInRange};
 ghost use Rattle.calls.specs.Core.{storesOf, sizesOk, laidOut};
 ghost use Rattle.calls.specs.Contents.{dueOk, markOk};
-ghost use Rattle.state.specs.State.{byteAt, stateAt};
+ghost use Rattle.printer.specs.Layout.{stateSize};
+ghost use Rattle.state.specs.State.{stateAt};
 ghost use Rattle.state.specs.Contents.{fieldsOk, copiesOk, formsLineOk, stateOk, soundBytes};
 
-// What a look at the lent stores finds: whether a printer can have them, and the form laid out if so.
+// What judging finds: whether a printer can have what is lent, and the form laid out if so.
 pub struct Found {
     pub sound: bool,
     pub form: Layout,
@@ -34,6 +34,14 @@ impl Found {
     };
 }
 
+// The sizes of the stores, which are all that Start asks of them.
+pub fn sizes_ok(page: &[u8], legends: &[u8], tables: &[u8]) -> bool
+    ensures { λ r. ⌜ r ≡ sizesOk (storesOf (now (page .entry)) (now (legends .entry)) (now (tables .entry))) ⌝ }
+{
+    (page.len() == Printer::PAGE_BYTES)
+        & ((legends.len() == Printer::LEGEND_BYTES) & (tables.len() == Printer::TABLE_BYTES))
+}
+
 // A byte as a pitch that Start is passed.
 fn pitch(b: u8) -> u32
     ensures { λ r. ⌜ r ≡ b ⌝ }
@@ -42,29 +50,35 @@ fn pitch(b: u8) -> u32
 }
 
 fn fixed_ok(s: &[u8]) -> bool
-    requires { ⌜ length (now s) ≡ 184 ⌝ }
-    ensures { λ r. ⌜ r ≡ formOk (byteAt (now (s .entry)) 0 * 256 + byteAt (now (s .entry)) 1)
-        (byteAt (now (s .entry)) 2 ∷ byteAt (now (s .entry)) 3 ∷ byteAt (now (s .entry)) 4 ∷ byteAt (now (s .entry)) 5 ∷ []) ⌝ }
+    requires { ⌜ length (now s) ≡ stateSize ⌝ }
+    ensures { λ r. ⌜ r ≡ formOk (stateAt (now (s .entry)) .fixed .length) (stateAt (now (s .entry)) .fixed .pitches) ⌝ }
 {
-    let length = state::pair(s[0], s[1]) as u32;
-    form::fcb::form_ok(length, pitch(s[2]), pitch(s[3]), pitch(s[4]), pitch(s[5]))
+    let fixed = codec::fixed(s);
+    let pitches = fixed.pitches;
+    form::fcb::form_ok(
+        fixed.length as u32,
+        pitch(pitches[0]),
+        pitch(pitches[1]),
+        pitch(pitches[2]),
+        pitch(pitches[3]),
+    )
 }
 
 fn sheet_ok(s: &[u8]) -> bool
-    requires { ⌜ length (now s) ≡ 184 ⌝ }
+    requires { ⌜ length (now s) ≡ stateSize ⌝ }
     ensures { λ r. ⌜ r ≡ (dueOk (stateAt (now (s .entry)) .sheet) && markOk (stateAt (now (s .entry)) .sheet)) ⌝ }
 {
-    let waiting = s[17] == 1;
-    ((s[18] != 1) | waiting) & !((s[16] == 1) & waiting)
+    let sheet = codec::sheet(s);
+    (!sheet.due | sheet.waiting) & !(sheet.written & sheet.waiting)
 }
 
 // The form length and the pitches, which take longest, come last.
 fn fields_ok(s: &[u8]) -> bool
-    requires { ⌜ length (now s) ≡ 184 ⌝ }
+    requires { ⌜ length (now s) ≡ stateSize ⌝ }
     ensures { λ r. ⌜ r ≡ fieldsOk (stateAt (now (s .entry))) ⌝ }
 {
     let sheet = sheet_ok(s);
-    let slots = (s[8] == 1) & (s[12] <= 3);
+    let slots = (s[Printer::LOADED_AT] == 1) & (s[Printer::SELECTED_AT] <= 3);
     if !(slots & sheet) {
         return false;
     }
@@ -72,35 +86,45 @@ fn fields_ok(s: &[u8]) -> bool
 }
 
 fn copies_ok(s: &[u8]) -> bool
-    requires { ⌜ length (now s) ≡ 184 ⌝ }
+    requires { ⌜ length (now s) ≡ stateSize ⌝ }
     ensures { λ r. ⌜ r ≡ copiesOk (stateAt (now (s .entry))) ⌝ }
 {
-    copies::kept_ok(&s[24..40], s[13], s[14])
+    copies::kept_ok(
+        &s[Printer::PAIRS_AT..Printer::FCB_AT],
+        s[Printer::PAIR_COUNT_AT],
+        s[Printer::REFERENCE_AT],
+    )
 }
 
-fn kept(s: &[u8]) -> Kept
-    requires { ⌜ length (now s) ≡ 184 ⌝ }
+fn lay_out(s: &[u8]) -> Judged
+    requires { ⌜ length (now s) ≡ stateSize ⌝ }
     ensures range { λ r. ⌜ r .range ≡ formsInRange (stateAt (now (s .entry)) .forms) ⌝ }
     ensures layout { λ r. ⌜ r .layout ≡ laidOut (stateAt (now (s .entry))) ⌝ }
 {
-    form::fcb::kept(state::pair(s[0], s[1]), &s[40..184], s[7])
+    let fixed = codec::fixed(s);
+    form::fcb::judge(
+        fixed.length,
+        &s[Printer::FCB_AT..Printer::STATE_BYTES],
+        s[Printer::FCB_COUNT_AT],
+    )
 }
 
-// The FCB is the state's own, looked at.
-fn forms_ok(s: &[u8], fcb: Kept) -> bool
-    requires { ⌜ length (now s) ≡ 184 ⌝ }
+// The FCB is the state's own, judged.
+fn forms_ok(s: &[u8], fcb: Judged) -> bool
+    requires { ⌜ length (now s) ≡ stateSize ⌝ }
     requires { ⌜ fcb .range ≡ formsInRange (stateAt (now s) .forms) ⌝ }
     requires { ⌜ fcb .layout ≡ laidOut (stateAt (now s)) ⌝ }
     ensures { λ r. ⌜ r ≡ formsLineOk (stateAt (now (s .entry))) ⌝ }
 {
-    let line = s[15];
+    let line = s[Printer::SHEET_AT];
     let form = fcb.layout;
-    let found = form::fcb::layout_check(state::pair(s[0], s[1]), form);
+    let fixed = codec::fixed(s);
+    let found = form::fcb::layout_check(fixed.length, form);
     fcb.range & ((1 <= line) & (line as u16 <= form.lines) & found.is_sound())
 }
 
-fn look_at_state(s: &[u8]) -> Found
-    requires { ⌜ length (now s) ≡ 184 ⌝ }
+fn judge_state(s: &[u8]) -> Found
+    requires { ⌜ length (now s) ≡ stateSize ⌝ }
     ensures sound { λ r. ⌜ r .sound ≡ stateOk (stateAt (now (s .entry))) ⌝ }
     ensures form { λ r. ⌜ (r .sound ≡ true → r .form ≡ laidOut (stateAt (now (s .entry)))) ⌝ }
 {
@@ -110,7 +134,7 @@ fn look_at_state(s: &[u8]) -> Found
     if !copies_ok(s) {
         return Found::NONE;
     }
-    let fcb = kept(s);
+    let fcb = lay_out(s);
     let form = fcb.layout;
     Found {
         sound: forms_ok(s, fcb),
@@ -118,17 +142,19 @@ fn look_at_state(s: &[u8]) -> Found
     }
 }
 
-// What is lent has its sizes. An end between the parts spares what is left, and the legends, which are the longest part, come last.
-pub fn look(state: &[u8], legends: &[u8]) -> Found
-    requires { ⌜ length (now legends) ≡ 8192 ⌝ }
-    ensures sound { λ r. ⌜ ((p t : List ℕ) → let m = storesOf p (now (legends .entry)) t in
-        sizesOk m ≡ true → r .sound ≡ soundBytes (now (state .entry)) m) ⌝ }
+// Number 9, for every call but Start. It returns at the first part that is bad; the legends, which are the longest, come last.
+pub fn judge(state: &[u8], page: &[u8], legends: &[u8], tables: &[u8]) -> Found
+    ensures sound { λ r. ⌜ r .sound
+        ≡ soundBytes (now (state .entry)) (storesOf (now (page .entry)) (now (legends .entry)) (now (tables .entry))) ⌝ }
     ensures form { λ r. ⌜ (r .sound ≡ true → r .form ≡ laidOut (stateAt (now (state .entry)))) ⌝ }
 {
-    if !state::is_readable(state) {
+    if !sizes_ok(page, legends, tables) {
         return Found::NONE;
     }
-    let found = look_at_state(state);
+    if !codec::is_readable(state) {
+        return Found::NONE;
+    }
+    let found = judge_state(state);
     if !found.sound {
         return Found::NONE;
     }

@@ -1,4 +1,4 @@
-// A printer and an answer as a C host holds them: the state's bytes, and the answer's one number.
+// A printer and an answer as a C host holds them: the state's bytes, judged and decoded and put back, and the answer's one number.
 pub mod answer;
-pub mod contents;
-pub mod state;
+pub mod codec;
+pub mod judge;
