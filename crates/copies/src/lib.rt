@@ -127,8 +127,7 @@ pub fn number_check(sent: &[u8]) -> Checked
     Checked::Sound
 }
 
-// Whether byte b is out of order at place k: copies are at least 1, a mark is 0 or 1, and 00 follows the count. A byte below the lowest allowed value
-// wraps to a large one, so one comparison tests both ends; k before the count is told the same way. With no branch the compiler takes all places at once.
+// Whether byte b may not stand at place k. A byte below the lowest allowed value wraps to a large one, so one comparison tests both ends.
 fn is_loose(count: u8, k: u8, b: u8) -> bool
     requires { ⌜ k < pairSize ⌝ }
     ensures { λ r. ⌜ (count ≤ pairSize → r ≡ cond (ltb k count) (cond (eqb (k % 2) 0) (eqb b 0) (ltb 1 b)) (not (eqb b 0))) ⌝ }
@@ -140,7 +139,7 @@ fn is_loose(count: u8, k: u8, b: u8) -> bool
     more < std::num::wrapping_sub_u8(b, least)
 }
 
-// Looks at every place whatever the count is, with the place as a byte beside the index: so the loop has no branch and a known length.
+// Every place whatever the count is, and the place as a byte beside the index: so the loop has no branch and a known length.
 fn any_loose(count: u8, pairs: &[u8]) -> bool
     requires { ⌜ length (now pairs) ≡ pairSize ⌝ }
     ensures { λ r. ⌜ (count ≤ pairSize → count % 2 ≡ 0
@@ -157,7 +156,7 @@ fn any_loose(count: u8, pairs: &[u8]) -> bool
     found
 }
 
-// Whether a stored sequence and reference are in range, and such as their loads would take. Where no byte is loose, those after the count add no copies.
+// Whether a stored sequence and reference are such as loads leave. Where no byte is loose, those after the count add no copies.
 pub fn copies_ok(pairs: &[u8], count: u8, reference: u8) -> bool
     requires { ⌜ length (now pairs) ≡ pairSize ⌝ }
     ensures { λ r. ⌜ r ≡ (copiesInRange (record { pairs = now (pairs .entry); count = count; reference = reference })

@@ -1,6 +1,6 @@
-// Composing a copy: the page's lines, with the segments of the legends over them in their order.
-use crate::segment_length;
+// Document 01, "Copies and legends": composing a copy, the page's lines, with the segments of the legends over them in their order.
 use crate::HEAD_BYTES;
+use crate::segment_length;
 use numbers::Stores;
 ghost use mathlib.Core.Path.{_≡_};
 ghost use mathlib.Core.Bool.{true, false};
