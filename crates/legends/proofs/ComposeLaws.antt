@@ -1,5 +1,5 @@
 -- What one segment shows on a copy, cell by cell, and the walk over stored legends.
-use Prim.Native.Nat.{ℕ, zero, suc, _+_, _*_, _-_, _/_, _%_, _≤_, _<_, min}
+use Prim.Native.Nat.{ℕ, zero, suc, _+_, _*_, _-_, _≤_, _<_, min}
 use mathlib.Core.Path.{_≡_, refl, sym, ap, _∙_}
 use mathlib.Core.Bool.{Bool, true, false, cond, _&&_, false≢true}
 use mathlib.Core.List.{List, [], _∷_, _++_, map}
@@ -13,7 +13,7 @@ use Rattle.seq.proofs.Laws.{and-left, and-right, and-both}
 use Rattle.numbers.specs.Sizes.{lineWidth, lineBytes}
 use Rattle.numbers.specs.Numbers.{isSound}
 use Rattle.legends.specs.Legends.{headSize, Segment, segmentOf, segmentLength, storedSegments, legendsOk}
-use Rattle.legends.specs.Legends.{among, covers, shown, copyFrom}
+use Rattle.legends.specs.Legends.{among, covers, shown, lineOf, positionOf, copyFrom}
 use Rattle.legends.proofs.SegmentLaws.{found, rest, SoundFirst, sound-first, byte-set, ends-in-line, end-at, rest-at, stored-next, cut-end}
 use Rattle.legends.proofs.StoredLaws.{first-set, ok-sound, ok-front}
 
@@ -24,7 +24,7 @@ length-copyFrom gs number i [] = refl
 length-copyFrom gs number i (c ∷ cs) = ap suc (length-copyFrom gs number (suc i) cs)
 
 getD-copyFrom : (gs : List Segment) (number i k : ℕ) (cs : List ℕ) → k < length cs
-    → getD (copyFrom gs number i cs) k 0 ≡ shown gs number ((i + k) / lineWidth + 1) ((i + k) % lineWidth + 1) (getD cs k 0)
+    → getD (copyFrom gs number i cs) k 0 ≡ shown gs number (lineOf (i + k)) (positionOf (i + k)) (getD cs k 0)
 unfolding copyFrom
 getD-copyFrom gs number i k [] h = absurd (not-suc-le-zero h)
 getD-copyFrom gs number i zero (c ∷ cs) h = rw (add-zero i) refl
@@ -87,7 +87,7 @@ not-covered g number line position none = same-test _ false (λ e. absurd (none 
 -- What one segment makes of cell k.
 module _ (g : Segment) (number : ℕ) where
   abbrev over : ℕ → ℕ → ℕ
-  over k c = cond (covers g number (k / lineWidth + 1) (k % lineWidth + 1)) (getD (g .text) (k % lineWidth + 1 - g .firstPosition) 0) c
+  over k c = cond (covers g number (lineOf k) (positionOf k)) (getD (g .text) (positionOf k - g .firstPosition) 0) c
 
   getD-over : (k : ℕ) (cs : List ℕ) → k < length cs → getD (copyFrom (g ∷ []) number 0 cs) k 0 ≡ over k (getD cs k 0)
   unfolding shown
@@ -100,12 +100,12 @@ module _ (g : Segment) (number : ℕ) where
       (λ k h. let h′ : k < length old = omega (arith, l, h) in f k h′ ∙ sym (getD-over k old h′))
 
   -- a segment that covers no cell leaves all
-  copy-same : (old : List ℕ) → ((k : ℕ) → k < length old → covers g number (k / lineWidth + 1) (k % lineWidth + 1) ≡ false) → old ≡ copyFrom (g ∷ []) number 0 old
+  copy-same : (old : List ℕ) → ((k : ℕ) → k < length old → covers g number (lineOf k) (positionOf k) ≡ false) → old ≡ copyFrom (g ∷ []) number 0 old
   copy-same old f = copy-is old old refl (λ k h. rw (f k h) refl)
 
 -- Two segments of one text and first position that cover the same cells show the same.
 copy-alike : (g h : Segment) (n m : ℕ) (old : List ℕ) → g .text ≡ h .text → g .firstPosition ≡ h .firstPosition
-    → ((k : ℕ) → k < length old → covers g n (k / lineWidth + 1) (k % lineWidth + 1) ≡ covers h m (k / lineWidth + 1) (k % lineWidth + 1))
+    → ((k : ℕ) → k < length old → covers g n (lineOf k) (positionOf k) ≡ covers h m (lineOf k) (positionOf k))
     → copyFrom (g ∷ []) n 0 old ≡ copyFrom (h ∷ []) m 0 old
 copy-alike g h n m old t p f =
     copy-is h m old (copyFrom (g ∷ []) n 0 old) (length-copyFrom (g ∷ []) n 0 old)
@@ -165,18 +165,18 @@ module _ (text old : List ℕ) (row place : ℕ) where
     fits-row = omega (arith, same-size, narrow, room)
 
     -- outside the text of this row, the row more covers what was covered
-    outside : (k : ℕ) → k < length old → (Covered (rows (i + 1)) 0 (k / lineWidth + 1) (k % lineWidth + 1) → k / lineWidth < i)
+    outside : (k : ℕ) → k < length old → (Covered (rows (i + 1)) 0 (lineOf k) (positionOf k) → lineOf k ≤ i)
         → getD out k 0 ≡ over (rows (i + 1)) 0 k (getD old k 0)
     outside k h f =
-        let t = covers-same (rows i) (rows (i + 1)) 0 0 (k / lineWidth + 1) (k % lineWidth + 1) (λ c. (c .0, ((c .1 .0 .0, omega (arith, c)), c .1 .1)))
+        let t = covers-same (rows i) (rows (i + 1)) 0 0 (lineOf k) (positionOf k) (λ c. (c .0, ((c .1 .0 .0, omega (arith, c)), c .1 .1)))
         (λ c. (c .0, ((c .1 .0 .0, omega (arith, c, f c)), c .1 .1))) in
         ap (λ (l : List ℕ). getD l k 0) e ∙ getD-over (rows i) 0 k old h ∙ rw t refl
 
     inside : (k : ℕ) → at ≤ k → k < at + length text → getD text (k - at) 0 ≡ over (rows (i + 1)) 0 k (getD old k 0)
     inside k h l =
-        let t = covers-in (rows (i + 1)) 0 (k / lineWidth + 1) (k % lineWidth + 1)
+        let t = covers-in (rows (i + 1)) 0 (lineOf k) (positionOf k)
         ((omega arith, omega arith), ((omega arith, omega arith), (omega arith, omega arith))) in
-        let p : k % lineWidth + 1 - (place + 1) ≡ k - at = omega arith in
+        let p : positionOf k - (place + 1) ≡ k - at = omega arith in
         rw (t, p) refl
 
     abbrev Right : ℕ → Type 0
@@ -211,7 +211,7 @@ this-copy : (g : Segment) (number lines : ℕ) (old : List ℕ) → Among (g .fi
     → length (g .text) ≡ g .positions → length old ≡ lineBytes * lines → copyFrom (rowsOf g lines ∷ []) 0 0 old ≡ copyFrom (g ∷ []) number 0 old
 this-copy g number lines old a line position size room =
     copy-alike (rowsOf g lines) g 0 number old refl (omega arith)
-    (λ k m. covers-same (rowsOf g lines) g 0 number (k / lineWidth + 1) (k % lineWidth + 1)
+    (λ k m. covers-same (rowsOf g lines) g 0 number (lineOf k) (positionOf k)
     (λ c. (a, ((omega (arith, c), omega (arith, c)), (omega (arith, c), omega (arith, c)))))
     (λ c. ((omega arith, omega arith), ((omega (arith, c), omega (arith, c)), (omega (arith, c), omega (arith, c))))))
 

@@ -102,10 +102,9 @@ zero-first (suc n) = refl
 stored-fits : {ss : List (List ℕ)} → Fits ss → length (flatten ss) ≤ legendSize → storedSegments (padded legendSize (flatten ss)) ≡ ss
 unfolding storedSegments padded
 stored-fits {ss} g l =
-    cut-flatten (λ b. eqb b 0) (λ b h. ne-eqb b 0 (λ e. omega (arith, h, e))) (zeros (legendSize - length (flatten ss)))
-    (λ n. cut-end n (zeros (legendSize - length (flatten ss))) (zero-first (legendSize - length (flatten ss))))
-    (length (flatten ss ++ zeros (legendSize - length (flatten ss)))) g
-    (simp length-append (omega (arith, few-fits g)))
+    let k = legendSize - length (flatten ss) in
+    cut-flatten (λ b. eqb b 0) (λ b h. ne-eqb b 0 (λ e. omega (arith, h, e))) (zeros k) (λ n. cut-end n (zeros k) (zero-first k))
+    (length (flatten ss ++ zeros k)) g (simp length-append (omega (arith, few-fits g)))
 
 padded-ok : {ss : List (List ℕ)} → Fits ss → length (flatten ss) ≤ legendSize → legendsOk (padded legendSize (flatten ss)) ≡ true
 unfolding legendsOk every

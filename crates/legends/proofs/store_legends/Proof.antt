@@ -65,12 +65,13 @@ returns c =
     let l = c .before .before .before .before .before .loop in
     let n = length (c .before .before .before .before .before .before .before .before .before .args .sent .now) in
     let q = drop n (l .legends) in
-    let k : length q ≡ legendSize - n = rw length-drop (search needs) in
+    let k = legendSize - n in
+    let size : length q ≡ k = rw length-drop (search needs) in
     let f = c .before .before .fill in
-    let y : f .last .0 ≡ zeros (legendSize - n) = f .ensures ∙ ap zeros (length-take-le (legendSize - n) q (omega (arith, k))) in
-    let none = drop-of-length-le q {i = legendSize - n} (omega (arith, k)) in
+    let y : f .last .0 ≡ zeros k = f .ensures ∙ ap zeros (length-take-le k q (omega (arith, size))) in
+    let none = drop-of-length-le q {i = k} (omega (arith, size)) in
     let z = storing-end _ _ _ (l .legends) (l .found) (l .at) (search needs) (search needs) (l .inv .1) in
-    ((λ i. take n (l .legends) ++ (y i ++ none i)) ∙ ap (λ (r : List ℕ). take n (l .legends) ++ r) (append-nil (zeros (legendSize - n))) ∙ z .0, z .1)
+    ((λ i. take n (l .legends) ++ (y i ++ none i)) ∙ ap (λ (r : List ℕ). take n (l .legends) ++ r) (append-nil (zeros k)) ∙ z .0, z .1)
 
 pub store-legends-spec : {M : Type 1} → statement M
 store-legends-spec =
