@@ -1,7 +1,7 @@
 -- Overlay sequences, copy numbers and translate tables: the pairs of a record step by step, and what the checks leave true of an accepted one.
-use Prim.Native.Nat.{ℕ, zero, suc, _+_, _-_, _/_, _%_, _≤_, _<_}
+use Prim.Native.Nat.{ℕ, suc, _+_, _-_, _/_, _%_, _≤_, _<_}
 use mathlib.Core.Path.{_≡_, refl}
-use mathlib.Core.Bool.{Bool, true, not, _&&_}
+use mathlib.Core.Bool.{true, not, _&&_}
 use mathlib.Core.List.{List, [], _∷_, map, flatten}
 use native.Mathlib.Omega.{arith}
 use lib.ListN.{length, getD, drop, replicate, length-drop}
@@ -10,11 +10,12 @@ use lib.Dec.{eqb, leb}
 use borrow.Author.Tests.{eqb-true, eqb-false, leb-true, ltb-false, not-true, not-false}
 use Rattle.seq.specs.Words.{any, when, firstOr, zeros}
 use Rattle.seq.proofs.Laws.{and-left, and-right, or-right, passed}
+use Rattle.numbers.specs.Sizes.{slotSize}
 use Rattle.numbers.specs.declared.Cause.the-variants.{SequencePairs, SequenceCounts, NumberRecord}
 use Rattle.numbers.specs.declared.Checked.the-variants.{Sound, Faulty}
 use Rattle.numbers.proofs.Laws.{faulty}
 use Rattle.copies.specs.declared.Copies.{Copies}
-use Rattle.copies.specs.Copies.{tableCheck, pairsOf, copiesOf, badPair, sequenceCheck, markIn, numberCheck, copyNumber}
+use Rattle.copies.specs.Copies.{pairSize, mostCopies, tableCheck, pairsOf, copiesOf, wholePairs, badPair, sequenceCheck, markIn, numberCheck, copyNumber}
 
 -- The pairs from place i on: the one there before those after it, and none where fewer than two bytes are left.
 module _ (r : List ℕ) (i : ℕ) where
@@ -34,29 +35,26 @@ module _ (r : List ℕ) (i : ℕ) where
       short (n ∷ []) h = refl
       short (n ∷ m ∷ l) h = absurd (omega arith)
 
-pub table-long : (r : List ℕ) → tableCheck r ≡ Sound → 256 ≤ length r
+pub table-long : (r : List ℕ) → tableCheck r ≡ Sound → slotSize ≤ length r
 unfolding tableCheck
-table-long r e = ltb-false (length r) 256 (passed _ _ faulty e .0)
+table-long r e = ltb-false (length r) slotSize (passed _ _ faulty e .0)
 
--- 1 to 8 whole pairs are an even number of bytes, and fit the array.
-abbrev pub wholeLength : ℕ → Bool
-wholeLength n = eqb (n % 2) 0 && leb 1 (n / 2) && leb (n / 2) 8
+-- Whole pairs are an even number of bytes, and fit the array.
+pub pairs-even : (n : ℕ) → wholePairs n ≡ true → n % 2 ≡ 0
+pairs-even n w = eqb-true _ _ (and-left _ (leb 1 (n / 2)) (and-left _ (leb (n / 2) 8) w))
 
-pub whole-even : (n : ℕ) → wholeLength n ≡ true → n % 2 ≡ 0
-whole-even n w = eqb-true _ _ (and-left _ (leb 1 (n / 2)) (and-left _ (leb (n / 2) 8) w))
-
-pub whole-fits : (n : ℕ) → wholeLength n ≡ true → n ≤ 16
-whole-fits n w =
+pub pairs-fit : (n : ℕ) → wholePairs n ≡ true → n ≤ pairSize
+pairs-fit n w =
     let few : n / 2 ≤ 8 = leb-true _ _ (and-right (eqb (n % 2) 0 && leb 1 (n / 2)) _ w) in
-    omega (arith, whole-even n w)
+    omega (arith, pairs-even n w)
 
-pub sequence-fits : (r : List ℕ) → sequenceCheck r ≡ Sound → length r ≤ 16
+pub sequence-fits : (r : List ℕ) → sequenceCheck r ≡ Sound → length r ≤ pairSize
 unfolding sequenceCheck
-sequence-fits r e = whole-fits (length r) (not-false _ (passed _ _ faulty e .0))
+sequence-fits r e = pairs-fit (length r) (not-false _ (passed _ _ faulty e .0))
 
-pub few-copies : (r : List ℕ) → sequenceCheck r ≡ Sound → copiesOf r ≤ 255
+pub few-copies : (r : List ℕ) → sequenceCheck r ≡ Sound → copiesOf r ≤ mostCopies
 unfolding sequenceCheck
-few-copies r e = ltb-false 255 (copiesOf r) (or-right (any badPair (pairsOf r)) _ (passed _ _ faulty (passed _ _ faulty e .1) .0))
+few-copies r e = ltb-false mostCopies (copiesOf r) (or-right (any badPair (pairsOf r)) _ (passed _ _ faulty (passed _ _ faulty e .1) .0))
 
 pub number-some : (r : List ℕ) → numberCheck r ≡ Sound → 1 ≤ getD r 0 0
 unfolding numberCheck
@@ -65,11 +63,11 @@ number-some r e =
     omega (arith, eqb-false (getD r 0 0) 0 (not-true _ (and-right (eqb (length r) 1) _ one)))
 
 -- Copy numbers are at most 509, and the last one is.
-pub number-most : (c : Copies) (k : ℕ) → c .reference ≤ 255 → k ≤ 255 → copyNumber c k ≤ 509
+pub number-most : (c : Copies) (k : ℕ) → c .reference ≤ 255 → k ≤ mostCopies → copyNumber c k ≤ 509
 unfolding copyNumber
 number-most c k r h = omega arith
 
-pub number-last : copyNumber (record { pairs = zeros 16; count = 0; reference = 255 }) 255 ≡ 509
+pub number-last : copyNumber (record { pairs = zeros pairSize; count = 0; reference = 255 }) mostCopies ≡ 509
 unfolding copyNumber
 number-last = refl
 

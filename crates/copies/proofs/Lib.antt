@@ -1,2 +1,2 @@
 pub mod CopiesLaws
-pub mod KeptLaws
+pub mod JudgeLaws

@@ -12,7 +12,7 @@ use Rattle.numbers.specs.declared.Checked.{Checked}
 use Rattle.numbers.specs.declared.Checked.the-variants.{Sound, Faulty}
 use Rattle.copies.specs.declared.Copies.{Copies}
 
--- Load translate: a record of fewer than 256 bytes is too short.
+-- Load translate: a record that does not fill a slot is too short.
 unfoldable pub tableCheck : List ℕ → Checked
 tableCheck r = firstOr Sound (when (ltb (length r) slotSize) (Faulty TableShort) ∷ [])
 
@@ -25,10 +25,13 @@ pairsOf (n ∷ m ∷ r) = (n, m) ∷ pairsOf r
 unfoldable pub copiesOf : List ℕ → ℕ
 copiesOf r = total (map (λ p. p .0) (pairsOf r))
 
--- Load overlay sequence: first that there are 1 to 8 whole pairs, then that no count is zero, no mark other than 0 or 1 (house), and that
--- the copies are at most 255.
-abbrev pub wholePairs : List ℕ → Bool
-wholePairs r = eqb (length r % 2) 0 && leb 1 (length r / 2) && leb (length r / 2) 8
+-- Load overlay sequence: first that its n bytes are 1 to 8 whole pairs, then that no count is zero, no mark other than 0 or 1 (house), and
+-- that the copies are at most 255.
+abbrev pub wholePairs : ℕ → Bool
+wholePairs n = eqb (n % 2) 0 && leb 1 (n / 2) && leb (n / 2) 8
+
+abbrev pub mostCopies : ℕ
+mostCopies = 255
 
 abbrev pub badPair : ℕ × ℕ → Bool
 badPair p = eqb (p .0) 0 || ltb 1 (p .1)
@@ -36,8 +39,8 @@ badPair p = eqb (p .0) 0 || ltb 1 (p .1)
 unfoldable pub sequenceCheck : List ℕ → Checked
 sequenceCheck r =
     firstOr Sound
-    (when (not (wholePairs r)) (Faulty SequencePairs)
-    ∷ when (any badPair (pairsOf r) || ltb 255 (copiesOf r)) (Faulty SequenceCounts)
+    (when (not (wholePairs (length r))) (Faulty SequencePairs)
+    ∷ when (any badPair (pairsOf r) || ltb mostCopies (copiesOf r)) (Faulty SequenceCounts)
     ∷ [])
 
 -- The mark of the pair that copy k, from 1, falls to.
@@ -49,7 +52,7 @@ markIn k (p ∷ ps) = let later = markIn (k - p .0) ps in cond (leb k (p .0)) (p
 unfoldable pub numberCheck : List ℕ → Checked
 numberCheck r = firstOr Sound (when (not (eqb (length r) 1 && not (eqb (getD r 0 0) 0))) (Faulty NumberRecord) ∷ [])
 
--- What the printer keeps of sequence and number: the record's bytes with 00 after them, their count, and the reference.
+-- What the loads leave of sequence and number: the record's bytes with 00 after them, their count, and the reference.
 abbrev pub pairSize : ℕ
 pairSize = 16
 

@@ -1,17 +1,18 @@
-// Document 01, "Copies and legends": the loads of translate table, overlay sequence and copy number, and the copies that the kept ones ask for.
+// Document 01, "Copies and legends": the loads of translate table, overlay sequence and copy number, and the copies of a page.
 use numbers::Cause;
 use numbers::Checked;
+use numbers::Stores;
 ghost use mathlib.Core.Path.{_≡_};
 ghost use mathlib.Core.Bool.{cond, not, _&&_, _||_};
-ghost use Prim.Native.Nat.{_+_, _-_, _/_, _%_, _≤_, _<_};
-ghost use lib.Dec.{eqb, leb, ltb};
+ghost use Prim.Native.Nat.{_+_, _-_, _%_, _≤_, _<_};
+ghost use lib.Dec.{eqb, ltb};
 ghost use lib.ListN.{length, take};
 ghost use Rattle.seq.specs.Words.{any, zeroFrom};
 ghost use Rattle.numbers.specs.Numbers.{isSound};
-ghost use Rattle.copies.specs.Copies.{tableCheck, pairsOf, copiesOf, badPair, sequenceCheck, markIn, numberCheck};
-ghost use Rattle.copies.specs.Copies.{pairSize, copiesInRange};
+ghost use Rattle.copies.specs.Copies.{pairSize, mostCopies, tableCheck, pairsOf, copiesOf, wholePairs, badPair, sequenceCheck};
+ghost use Rattle.copies.specs.Copies.{markIn, numberCheck, copiesInRange};
 
-// The overlay sequence as a printer has it, its bytes with 00 after them and how many they are; and the copy number of copy 1.
+// A printer's overlay sequence, its bytes with 00 after them and how many they are; and the copy number of copy 1.
 pub struct Copies {
     pub pairs: [u8; Copies::PAIR_BYTES],
     pub count: u8,
@@ -21,12 +22,22 @@ pub struct Copies {
 impl Copies {
     // The longest overlay sequence: 8 pairs.
     pub const PAIR_BYTES: usize = 16;
+
+    // The copies that a sequence may ask for.
+    pub const MOST_COPIES: u16 = 255;
+
+    // One copy with mark 0, and reference 1.
+    pub const START: Copies = Copies {
+        pairs: [1, 0, 0, 0, 0, 0, 0, 0, 0, 0, 0, 0, 0, 0, 0, 0],
+        count: 2,
+        reference: 1,
+    };
 }
 
 pub fn table_check(sent: &[u8]) -> Checked
     ensures { λ r. ⌜ r ≡ tableCheck (now (sent .entry)) ⌝ }
 {
-    if sent.len() < 256 {
+    if sent.len() < Stores::SLOT_BYTES {
         return Checked::Faulty(Cause::TableShort);
     }
     Checked::Sound
@@ -34,7 +45,7 @@ pub fn table_check(sent: &[u8]) -> Checked
 
 // Whether n bytes are 1 to 8 whole pairs.
 fn whole_pairs(n: usize) -> bool
-    ensures { λ r. ⌜ r ≡ (eqb (n % 2) 0 && leb 1 (n / 2) && leb (n / 2) 8) ⌝ }
+    ensures { λ r. ⌜ r ≡ wholePairs n ⌝ }
 {
     (n % 2 == 0) & (1 <= n / 2) & (n / 2 <= 8)
 }
@@ -74,7 +85,7 @@ fn total_copies(pairs: &[u8]) -> u16
     copies
 }
 
-// The mark of the pair that copy k falls to, `left` counting the copies from the pair at i on.
+// The mark of the pair that copy k falls to. `left` is k counted from the pair at i on.
 fn mark_in(k: u16, pairs: &[u8]) -> u8
     ensures { λ r. ⌜ r ≡ markIn k (pairsOf (now (pairs .entry))) ⌝ }
 {
@@ -98,7 +109,7 @@ pub fn sequence_check(sent: &[u8]) -> Checked
     if !whole_pairs(sent.len()) {
         return Checked::Faulty(Cause::SequencePairs);
     }
-    if any_bad_pair(sent) | (255 < total_copies(sent)) {
+    if any_bad_pair(sent) | (Copies::MOST_COPIES < total_copies(sent)) {
         return Checked::Faulty(Cause::SequenceCounts);
     }
     Checked::Sound
@@ -116,11 +127,10 @@ pub fn number_check(sent: &[u8]) -> Checked
     Checked::Sound
 }
 
-// The byte at place k: copies from 1 on, a mark of 0 or 1, and 00 after the count are not loose. One difference tests a byte, as it wraps below the
-// least; another tells by its sign that k comes before the count. So the compiler takes all places at once.
+// Whether byte b may not stand at place k. A byte below the lowest allowed value wraps to a large one, so one comparison tests both ends.
 fn is_loose(count: u8, k: u8, b: u8) -> bool
-    requires { ⌜ k < 16 ⌝ }
-    ensures { λ r. ⌜ (count ≤ 16 → r ≡ cond (ltb k count) (cond (eqb (k % 2) 0) (eqb b 0) (ltb 1 b)) (not (eqb b 0))) ⌝ }
+    requires { ⌜ k < pairSize ⌝ }
+    ensures { λ r. ⌜ (count ≤ pairSize → r ≡ cond (ltb k count) (cond (eqb (k % 2) 0) (eqb b 0) (ltb 1 b)) (not (eqb b 0))) ⌝ }
 {
     let within = 127 < std::num::wrapping_sub_u8(k, count);
     let copies = k % 2 == 0;
@@ -129,16 +139,16 @@ fn is_loose(count: u8, k: u8, b: u8) -> bool
     more < std::num::wrapping_sub_u8(b, least)
 }
 
-// All 16 whatever the count is, and the place as a byte beside the index: so the loop has no branch and a known end.
+// Every place whatever the count is, and the place as a byte beside the index: so the loop has no branch and a known length.
 fn any_loose(count: u8, pairs: &[u8]) -> bool
-    requires { ⌜ length (now pairs) ≡ 16 ⌝ }
-    ensures { λ r. ⌜ (count ≤ 16 → count % 2 ≡ 0
+    requires { ⌜ length (now pairs) ≡ pairSize ⌝ }
+    ensures { λ r. ⌜ (count ≤ pairSize → count % 2 ≡ 0
         → r ≡ (any badPair (pairsOf (take count (now (pairs .entry)))) || not (zeroFrom count (now (pairs .entry))))) ⌝ }
 {
     let mut found = false;
     let mut k: u8 = 0;
     let mut i = 0;
-    while i < 16 {
+    while i < Copies::PAIR_BYTES {
         found = found | is_loose(count, k, pairs[i]);
         k += 1;
         i += 1;
@@ -146,21 +156,21 @@ fn any_loose(count: u8, pairs: &[u8]) -> bool
     found
 }
 
-// What a printer keeps, asked of its bytes. Where none is loose, all 16 have the copies of the sequence.
-pub fn kept_ok(pairs: &[u8], count: u8, reference: u8) -> bool
-    requires { ⌜ length (now pairs) ≡ 16 ⌝ }
+// Whether a stored sequence and reference are such as loads leave. Where no byte is loose, those after the count add no copies.
+pub fn copies_ok(pairs: &[u8], count: u8, reference: u8) -> bool
+    requires { ⌜ length (now pairs) ≡ pairSize ⌝ }
     ensures { λ r. ⌜ r ≡ (copiesInRange (record { pairs = now (pairs .entry); count = count; reference = reference })
         && isSound (sequenceCheck (take count (now (pairs .entry))))) ⌝ }
 {
     let whole = whole_pairs(seq::wide(count));
     let loose = any_loose(count, pairs);
     let copies = total_copies(pairs);
-    whole & ((1 <= reference) & (!loose & (copies <= 255)))
+    whole & ((1 <= reference) & (!loose & (copies <= Copies::MOST_COPIES)))
 }
 
-// The copies of a page by the sequence kept: how many, and the number and mark of copy k.
+// The copies of a page: how many, and the number and mark of copy k.
 pub fn copy_count(pairs: &[u8], count: u8) -> u16
-    requires { ⌜ length (now pairs) ≡ 16 ⌝ }
+    requires { ⌜ length (now pairs) ≡ pairSize ⌝ }
     ensures { λ r. ⌜ r ≡ copiesOf (take count (now (pairs .entry))) ⌝ }
 {
     total_copies(seq::front(pairs, seq::wide(count)))
@@ -168,7 +178,7 @@ pub fn copy_count(pairs: &[u8], count: u8) -> u16
 
 pub fn copy_number(reference: u8, k: u16) -> u16
     requires { ⌜ 1 ≤ k ⌝ }
-    requires { ⌜ k ≤ 255 ⌝ }
+    requires { ⌜ k ≤ mostCopies ⌝ }
     ensures { λ r. ⌜ r ≡ reference + k - 1 ⌝ }
 {
     count_of(reference) + k - 1

@@ -1,5 +1,5 @@
 -- What one segment shows on a copy, cell by cell, and the walk over stored legends.
-use Prim.Native.Nat.{ℕ, zero, suc, _+_, _*_, _-_, _/_, _%_, _≤_, _<_, min}
+use Prim.Native.Nat.{ℕ, zero, suc, _+_, _*_, _-_, _≤_, _<_, min}
 use mathlib.Core.Path.{_≡_, refl, sym, ap, _∙_}
 use mathlib.Core.Bool.{Bool, true, false, cond, _&&_, false≢true}
 use mathlib.Core.List.{List, [], _∷_, _++_, map}
@@ -10,10 +10,11 @@ use lib.Seq.{drop-at, take-add, take-take, drop-drop, getD-take, getD-drop, getD
 use lib.Dec.{leb, ltb, lit<}
 use borrow.Author.Tests.{leb-true, ltb-true, le-leb, lt-ltb, ltb-false}
 use Rattle.seq.proofs.Laws.{and-left, and-right, and-both}
+use Rattle.numbers.specs.Sizes.{lineWidth, lineBytes}
 use Rattle.numbers.specs.Numbers.{isSound}
-use Rattle.legends.specs.Legends.{Segment, segmentOf, segmentLength, storedSegments, legendsOk}
-use Rattle.legends.specs.Legends.{among, covers, shown, copyFrom}
-use Rattle.legends.proofs.SegmentLaws.{found, rest, Whole, whole, byte-set, ends-in-line, end-at, rest-at, stored-next, cut-end}
+use Rattle.legends.specs.Legends.{headSize, Segment, segmentOf, segmentLength, storedSegments, legendsOk}
+use Rattle.legends.specs.Legends.{among, covers, shown, lineOf, positionOf, copyFrom}
+use Rattle.legends.proofs.SegmentLaws.{found, rest, SoundFirst, sound-first, byte-set, ends-in-line, end-at, rest-at, stored-next, cut-end}
 use Rattle.legends.proofs.StoredLaws.{first-set, ok-sound, ok-front}
 
 -- A copy as a list: its length, its cells; no segment leaves the page, and segments show one after the other.
@@ -23,7 +24,7 @@ length-copyFrom gs number i [] = refl
 length-copyFrom gs number i (c ∷ cs) = ap suc (length-copyFrom gs number (suc i) cs)
 
 getD-copyFrom : (gs : List Segment) (number i k : ℕ) (cs : List ℕ) → k < length cs
-    → getD (copyFrom gs number i cs) k 0 ≡ shown gs number ((i + k) / 204 + 1) ((i + k) % 204 + 1) (getD cs k 0)
+    → getD (copyFrom gs number i cs) k 0 ≡ shown gs number (lineOf (i + k)) (positionOf (i + k)) (getD cs k 0)
 unfolding copyFrom
 getD-copyFrom gs number i k [] h = absurd (not-suc-le-zero h)
 getD-copyFrom gs number i zero (c ∷ cs) h = rw (add-zero i) refl
@@ -86,7 +87,7 @@ not-covered g number line position none = same-test _ false (λ e. absurd (none 
 -- What one segment makes of cell k.
 module _ (g : Segment) (number : ℕ) where
   abbrev over : ℕ → ℕ → ℕ
-  over k c = cond (covers g number (k / 204 + 1) (k % 204 + 1)) (getD (g .text) (k % 204 + 1 - g .firstPosition) 0) c
+  over k c = cond (covers g number (lineOf k) (positionOf k)) (getD (g .text) (positionOf k - g .firstPosition) 0) c
 
   getD-over : (k : ℕ) (cs : List ℕ) → k < length cs → getD (copyFrom (g ∷ []) number 0 cs) k 0 ≡ over k (getD cs k 0)
   unfolding shown
@@ -99,12 +100,12 @@ module _ (g : Segment) (number : ℕ) where
       (λ k h. let h′ : k < length old = omega (arith, l, h) in f k h′ ∙ sym (getD-over k old h′))
 
   -- a segment that covers no cell leaves all
-  copy-same : (old : List ℕ) → ((k : ℕ) → k < length old → covers g number (k / 204 + 1) (k % 204 + 1) ≡ false) → old ≡ copyFrom (g ∷ []) number 0 old
+  copy-same : (old : List ℕ) → ((k : ℕ) → k < length old → covers g number (lineOf k) (positionOf k) ≡ false) → old ≡ copyFrom (g ∷ []) number 0 old
   copy-same old f = copy-is old old refl (λ k h. rw (f k h) refl)
 
 -- Two segments of one text and first position that cover the same cells show the same.
 copy-alike : (g h : Segment) (n m : ℕ) (old : List ℕ) → g .text ≡ h .text → g .firstPosition ≡ h .firstPosition
-    → ((k : ℕ) → k < length old → covers g n (k / 204 + 1) (k % 204 + 1) ≡ covers h m (k / 204 + 1) (k % 204 + 1))
+    → ((k : ℕ) → k < length old → covers g n (lineOf k) (positionOf k) ≡ covers h m (lineOf k) (positionOf k))
     → copyFrom (g ∷ []) n 0 old ≡ copyFrom (h ∷ []) m 0 old
 copy-alike g h n m old t p f =
     copy-is h m old (copyFrom (g ∷ []) n 0 old) (length-copyFrom (g ∷ []) n 0 old)
@@ -140,22 +141,22 @@ module _ (at : ℕ) (ys out : List ℕ) (room : at + length ys ≤ length out) w
       ∙ getD-drop (length ys) (drop at out) (k - at - length ys) 0 ∙ getD-drop at out (length ys + (k - at - length ys)) 0
       ∙ ap (λ (i : ℕ). getD out i 0) j
 
--- A text laid into rows, as a segment for copy 0 alone: into none, and into a row more.
-abbrev pub laid : List ℕ → ℕ → ℕ → ℕ → Segment
-laid text row place past =
+-- A text in several rows, as a segment for copy 0 alone: in none, and in a row more.
+abbrev pub textRows : List ℕ → ℕ → ℕ → ℕ → Segment
+textRows text row place past =
     record { firstCopy = 0; copies = 1; firstLine = row + 1; lines = past - row; firstPosition = place + 1; positions = length text; text = text }
 
 module _ (text old : List ℕ) (row place : ℕ) where
   abbrev rows : ℕ → Segment
-  rows = laid text row place
+  rows = textRows text row place
 
   pub rows-none : (past : ℕ) → past ≤ row → old ≡ copyFrom (rows past ∷ []) 0 0 old
   rows-none past h = copy-same (rows past) 0 old (λ k l. not-covered (rows past) 0 _ _ (λ c. omega (arith, h, c)))
 
-  module _ (i : ℕ) (out : List ℕ) (later : row ≤ i) (narrow : place + length text ≤ 204) (room : (i + 1) * 204 ≤ length old)
+  module _ (i : ℕ) (out : List ℕ) (later : row ≤ i) (narrow : place + length text ≤ lineWidth) (room : (i + 1) * lineBytes ≤ length old)
       (e : out ≡ copyFrom (rows i ∷ []) 0 0 old) where
     abbrev at : ℕ
-    at = i * 204 + place
+    at = i * lineBytes + place
 
     same-size : length out ≡ length old
     same-size = ap length e ∙ length-copyFrom (rows i ∷ []) 0 0 old
@@ -163,19 +164,19 @@ module _ (text old : List ℕ) (row place : ℕ) where
     fits-row : at + length text ≤ length out
     fits-row = omega (arith, same-size, narrow, room)
 
-    -- outside the text laid now, the row more covers what was covered
-    outside : (k : ℕ) → k < length old → (Covered (rows (i + 1)) 0 (k / 204 + 1) (k % 204 + 1) → k / 204 < i)
+    -- outside the text of this row, the row more covers what was covered
+    outside : (k : ℕ) → k < length old → (Covered (rows (i + 1)) 0 (lineOf k) (positionOf k) → lineOf k ≤ i)
         → getD out k 0 ≡ over (rows (i + 1)) 0 k (getD old k 0)
     outside k h f =
-        let t = covers-same (rows i) (rows (i + 1)) 0 0 (k / 204 + 1) (k % 204 + 1) (λ c. (c .0, ((c .1 .0 .0, omega (arith, c)), c .1 .1)))
+        let t = covers-same (rows i) (rows (i + 1)) 0 0 (lineOf k) (positionOf k) (λ c. (c .0, ((c .1 .0 .0, omega (arith, c)), c .1 .1)))
         (λ c. (c .0, ((c .1 .0 .0, omega (arith, c, f c)), c .1 .1))) in
         ap (λ (l : List ℕ). getD l k 0) e ∙ getD-over (rows i) 0 k old h ∙ rw t refl
 
     inside : (k : ℕ) → at ≤ k → k < at + length text → getD text (k - at) 0 ≡ over (rows (i + 1)) 0 k (getD old k 0)
     inside k h l =
-        let t = covers-in (rows (i + 1)) 0 (k / 204 + 1) (k % 204 + 1)
+        let t = covers-in (rows (i + 1)) 0 (lineOf k) (positionOf k)
         ((omega arith, omega arith), ((omega arith, omega arith), (omega arith, omega arith))) in
-        let p : k % 204 + 1 - (place + 1) ≡ k - at = omega arith in
+        let p : positionOf k - (place + 1) ≡ k - at = omega arith in
         rw (t, p) refl
 
     abbrev Right : ℕ → Type 0
@@ -204,24 +205,24 @@ other-copy : (g : Segment) (number : ℕ) (old : List ℕ) → (Among (g .firstC
 other-copy g number old none = copy-same g number old (λ k h. not-covered g number _ _ (λ c. none (c .0)))
 
 abbrev rowsOf : Segment → ℕ → Segment
-rowsOf g lines = laid (g .text) (g .firstLine - 1) (g .firstPosition - 1) (min (g .firstLine - 1 + g .lines) lines)
+rowsOf g lines = textRows (g .text) (g .firstLine - 1) (g .firstPosition - 1) (min (g .firstLine - 1 + g .lines) lines)
 
 this-copy : (g : Segment) (number lines : ℕ) (old : List ℕ) → Among (g .firstCopy) (g .copies) number → 1 ≤ g .firstLine → 1 ≤ g .firstPosition
-    → length (g .text) ≡ g .positions → length old ≡ 204 * lines → copyFrom (rowsOf g lines ∷ []) 0 0 old ≡ copyFrom (g ∷ []) number 0 old
+    → length (g .text) ≡ g .positions → length old ≡ lineBytes * lines → copyFrom (rowsOf g lines ∷ []) 0 0 old ≡ copyFrom (g ∷ []) number 0 old
 this-copy g number lines old a line position size room =
     copy-alike (rowsOf g lines) g 0 number old refl (omega arith)
-    (λ k m. covers-same (rowsOf g lines) g 0 number (k / 204 + 1) (k % 204 + 1)
+    (λ k m. covers-same (rowsOf g lines) g 0 number (lineOf k) (positionOf k)
     (λ c. (a, ((omega (arith, c), omega (arith, c)), (omega (arith, c), omega (arith, c)))))
     (λ c. ((omega arith, omega arith), ((omega (arith, c), omega (arith, c)), (omega (arith, c), omega (arith, c))))))
 
 -- The segment at a place, its six bytes read there: the text is there, and they say where it goes.
 pub record Placed (l : List ℕ) (at : ℕ) : Type 0 where
-  pub fits : at + 6 + getD l (at + 5) 0 ≤ length l
+  pub fits : at + headSize + getD l (at + 5) 0 ≤ length l
   pub line : 1 ≤ getD l (at + 2) 0
   pub position : 1 ≤ getD l (at + 4) 0
-  pub ends : getD l (at + 4) 0 + getD l (at + 5) 0 ≤ 205
+  pub ends : getD l (at + 4) 0 + getD l (at + 5) 0 ≤ lineWidth + 1
 
-pub placed : (l : List ℕ) (at : ℕ) → Whole (drop at l) → Placed l at
+pub placed : (l : List ℕ) (at : ℕ) → SoundFirst (drop at l) → Placed l at
 placed l at w =
     let read : (k : ℕ) → getD l (at + k) 0 ≡ getD (drop at l) k 0 = λ k. sym (getD-drop at l k 0) in
     record {
@@ -234,9 +235,9 @@ placed l at w =
 first-at : (l : List ℕ) (at : ℕ) → getD (drop at l) 0 0 ≡ getD l at 0
 first-at l at = getD-drop at l 0 0 ∙ ap (λ (i : ℕ). getD l i 0) (add-zero at)
 
-pub text-at : (l : List ℕ) (at : ℕ) → take (getD l (at + 5) 0) (drop (at + 6) l) ≡ segmentOf (drop at l) .text
+pub text-at : (l : List ℕ) (at : ℕ) → take (getD l (at + 5) 0) (drop (at + headSize) l) ≡ segmentOf (drop at l) .text
 unfolding segmentOf
-text-at l at = rw (getD-drop at l 5 0, drop-drop 6 at l) refl
+text-at l at = rw (getD-drop at l 5 0, drop-drop headSize at l) refl
 
 pub length-text : (l : List ℕ) (at : ℕ) → Placed l at → length (segmentOf (drop at l) .text) ≡ getD l (at + 5) 0
 length-text l at w = rw (← text-at l at) (simp (length-take, length-drop) (omega (arith, w)))
@@ -246,9 +247,9 @@ module _ (l : List ℕ) (at number : ℕ) (old : List ℕ) where
   unfolding segmentOf
   other-segment none = other-copy (segmentOf (drop at l)) number old (rw (first-at l at, getD-drop at l 1 0) none)
 
-  pub this-segment : (lines : ℕ) → Placed l at → Among (getD l at 0) (getD l (at + 1) 0) number → length old ≡ 204 * lines
+  pub this-segment : (lines : ℕ) → Placed l at → Among (getD l at 0) (getD l (at + 1) 0) number → length old ≡ lineBytes * lines
       → (let row = getD l (at + 2) 0 - 1 in
-      copyFrom (laid (segmentOf (drop at l) .text) row (getD l (at + 4) 0 - 1) (min (row + getD l (at + 3) 0) lines) ∷ []) 0 0 old
+      copyFrom (textRows (segmentOf (drop at l) .text) row (getD l (at + 4) 0 - 1) (min (row + getD l (at + 3) 0) lines) ∷ []) 0 0 old
       ≡ copyFrom (segmentOf (drop at l) ∷ []) number 0 old)
   unfolding segmentOf
   this-segment lines w a room =
@@ -261,13 +262,13 @@ module _ (l : List ℕ) (at number : ℕ) (old : List ℕ) where
       room)
 
 -- A segment cut off is the one at the front of the bytes it was cut from.
-segment-front : (s : List ℕ) → 6 ≤ length s → segmentOf (take (segmentLength s) s) ≡ segmentOf s
+segment-front : (s : List ℕ) → headSize ≤ length s → segmentOf (take (segmentLength s) s) ≡ segmentOf s
 unfolding segmentOf
 segment-front s h =
     let m = segmentLength s in
-    let at : (k : ℕ) → k < 6 → getD (take m s) k 0 ≡ getD s k 0 = λ k j. getD-take m s k 0 (omega arith) in
-    let text : drop 6 (take m s) ≡ take (getD s 5 0) (drop 6 s)
-    = ap (drop 6) (take-add 6 (getD s 5 0) s) ∙ drop-at (take 6 s) (take (getD s 5 0) (drop 6 s)) 6 (length-take-le 6 s h) in
+    let at : (k : ℕ) → k < headSize → getD (take m s) k 0 ≡ getD s k 0 = λ k j. getD-take m s k 0 (omega arith) in
+    let text : drop headSize (take m s) ≡ take (getD s 5 0) (drop headSize s)
+    = ap (drop headSize) (take-add headSize (getD s 5 0) s) ∙ drop-at (take headSize s) (take (getD s 5 0) (drop headSize s)) headSize (length-take-le headSize s h) in
     rw (
       text,
       at 0 (lit< tt),
@@ -276,7 +277,7 @@ segment-front s h =
       at 3 (lit< tt),
       at 4 (lit< tt),
       at 5 (lit< tt),
-      take-take (getD s 5 0) (getD s 5 0) (drop 6 s) (omega arith),
+      take-take (getD s 5 0) (getD s 5 0) (drop headSize s) (omega arith),
     )
     refl
 
@@ -301,8 +302,8 @@ module _ (l : List ℕ) (number at : ℕ) (out goal : List ℕ) (some : getD l a
   unfolding Left
   sound = ok-front here (left .0) (λ e. some (sym (first-at l at) ∙ e))
 
-  pub left-here : Whole here
-  left-here = whole here sound
+  pub left-here : SoundFirst here
+  left-here = sound-first here sound
 
   pub left-step : (m : ℕ) → m ≡ segmentLength here → Left l number (at + m) (copyFrom (segmentOf here ∷ []) number 0 out) goal
   unfolding Left

@@ -10,17 +10,17 @@ use lib.Dec.{eqb, lit<}
 use borrow.Author.Tests.{ne-eqb, le-ltb}
 use Rattle.seq.specs.Words.{empty, when, firstOr, every, zeros, padded}
 use Rattle.seq.proofs.Laws.{passed, padded-zero, length-padded}
-use Rattle.numbers.specs.Sizes.{legendSize}
+use Rattle.numbers.specs.Sizes.{lineWidth, legendSize}
 use Rattle.numbers.specs.declared.Cause.the-variants.{SegmentEnds, SegmentFields}
 use Rattle.numbers.specs.declared.Checked.the-variants.{Sound, Faulty}
 use Rattle.numbers.specs.Numbers.{isSound}
 use Rattle.numbers.proofs.Laws.{faulty}
-use Rattle.legends.proofs.SegmentLaws.{judged, Whole, rest, tested, empty-or-sound, byte-set, cut-none, cut-more, cut-take, cut-end}
+use Rattle.legends.proofs.SegmentLaws.{judged, SoundFirst, rest, tested, empty-or-sound, byte-set, cut-none, cut-more, cut-take, cut-end}
 use Rattle.legends.specs.Legends.{headSize, segmentLength, badHead, segmentTests, cut, segments, legendCheck, retext, storedLegends, storedSegments, legendsOk, noLegends, Segment, covers, shown}
 
 -- A segment with its text and nothing after it, and several.
 record Fit (s : List ℕ) : Type 0 where
-  pub whole : Whole s
+  pub sound : SoundFirst s
   pub exact : length s ≤ segmentLength s
 
 data Fits : List (List ℕ) → Type 0 where
@@ -37,7 +37,7 @@ cut-fits zero r e = end
 cut-fits (suc n) [] e = end
 cut-fits (suc n) (b ∷ bs) e =
     let t = tested (take (segmentLength (b ∷ bs)) (b ∷ bs)) _ e in
-    more (record { whole = t .0; exact = cut-most (b ∷ bs) }) (cut-fits n (rest (b ∷ bs)) (t .1))
+    more (record { sound = t .0; exact = cut-most (b ∷ bs) }) (cut-fits n (rest (b ∷ bs)) (t .1))
 
 segments-fit : (r : List ℕ) → legendCheck r ≡ Sound → Fits (segments r)
 unfolding legendCheck segments
@@ -50,9 +50,9 @@ Ends ends = (b : ℕ) → 1 ≤ b → ends b ≡ false
 cut-cons : (ends : ℕ → Bool) (n : ℕ) (s q : List ℕ) → Ends ends → Fit s → cut ends (suc n) (s ++ q) ≡ s ∷ cut ends n q
 cut-cons ends n s q h f =
     let size : segmentLength (s ++ q) ≡ length s =
-    rw (List·getD-append s q 0 5 (omega (arith, f .whole .size))) (omega (arith, f .whole .size, f .exact)) in
-    let first = List·getD-append s q 0 0 (omega (arith, f .whole .size)) in
-    cut-more ends n (s ++ q) (rw length-append (omega (arith, f .whole .size))) (rw first (h (getD s 0 0) (byte-set s (f .whole) 0 (lit< tt))))
+    rw (List·getD-append s q 0 5 (omega (arith, f .sound .size))) (omega (arith, f .sound .size, f .exact)) in
+    let first = List·getD-append s q 0 0 (omega (arith, f .sound .size)) in
+    cut-more ends n (s ++ q) (rw length-append (omega (arith, f .sound .size))) (rw first (h (getD s 0 0) (byte-set s (f .sound) 0 (lit< tt))))
     ∙ rw (size, take-at s q (length s) refl, drop-at s q (length s) refl)
 
 module _ (ends : ℕ → Bool) (h : Ends ends) (q : List ℕ) (z : (n : ℕ) → cut ends n q ≡ []) where
@@ -68,7 +68,7 @@ module _ (ends : ℕ → Bool) (h : Ends ends) (q : List ℕ) (z : (n : ℕ) →
 few-fits : {ss : List (List ℕ)} → Fits ss → length ss ≤ length (flatten ss)
 unfolding flatten
 few-fits end = omega arith
-few-fits (more {s} {ss} f g) = rw (length-append s (flatten ss)) (omega (arith, few-fits g, f .whole .size))
+few-fits (more {s} {ss} f g) = rw (length-append s (flatten ss)) (omega (arith, few-fits g, f .sound .size))
 
 segments-flatten : {ss : List (List ℕ)} → Fits ss → segments (flatten ss) ≡ ss
 unfolding segments
@@ -80,7 +80,7 @@ segments-flatten {ss} g =
 fit-tests : (s : List ℕ) (ts : List (List ℕ)) → Fit s → firstOr Sound (flatten (map segmentTests (s ∷ ts))) ≡ firstOr Sound (flatten (map segmentTests ts))
 unfolding flatten firstOr when
 fit-tests s ts f =
-    let w = f .whole in
+    let w = f .sound in
     rw (le-ltb (length s) headSize (omega (arith, w .size)), w .head, le-ltb (length s) (segmentLength s) (w .size))
 
 fits-tests : {ss : List (List ℕ)} → Fits ss → firstOr Sound (flatten (map segmentTests ss)) ≡ Sound
@@ -99,17 +99,16 @@ zero-first zero = refl
 zero-first (suc n) = refl
 
 -- Legends that hold such segments and 00 after them are legends that a printer can have.
-stored-fits : {ss : List (List ℕ)} → Fits ss → length (flatten ss) ≤ 8192 → storedSegments (padded legendSize (flatten ss)) ≡ ss
+stored-fits : {ss : List (List ℕ)} → Fits ss → length (flatten ss) ≤ legendSize → storedSegments (padded legendSize (flatten ss)) ≡ ss
 unfolding storedSegments padded
 stored-fits {ss} g l =
-    cut-flatten (λ b. eqb b 0) (λ b h. ne-eqb b 0 (λ e. omega (arith, h, e))) (zeros (8192 - length (flatten ss)))
-    (λ n. cut-end n (zeros (8192 - length (flatten ss))) (zero-first (8192 - length (flatten ss))))
-    (length (flatten ss ++ zeros (8192 - length (flatten ss)))) g
-    (simp length-append (omega (arith, few-fits g)))
+    let k = legendSize - length (flatten ss) in
+    cut-flatten (λ b. eqb b 0) (λ b h. ne-eqb b 0 (λ e. omega (arith, h, e))) (zeros k) (λ n. cut-end n (zeros k) (zero-first k))
+    (length (flatten ss ++ zeros k)) g (simp length-append (omega (arith, few-fits g)))
 
-padded-ok : {ss : List (List ℕ)} → Fits ss → length (flatten ss) ≤ 8192 → legendsOk (padded legendSize (flatten ss)) ≡ true
+padded-ok : {ss : List (List ℕ)} → Fits ss → length (flatten ss) ≤ legendSize → legendsOk (padded legendSize (flatten ss)) ≡ true
 unfolding legendsOk every
-padded-ok {ss} g l = rw (stored-fits g l, some-or-sound g, padded-zero 8192 (flatten ss))
+padded-ok {ss} g l = rw (stored-fits g l, some-or-sound g, padded-zero legendSize (flatten ss))
 
 pub none-ok : legendsOk noLegends ≡ true
 unfolding noLegends padded flatten
@@ -117,25 +116,25 @@ none-ok = padded-ok end (omega arith)
 
 -- The text of each segment put through f, which keeps its length.
 module _ (f : List ℕ → List ℕ) (same : (x : List ℕ) → length (f x) ≡ length x) where
-  pub retext-length : (s : List ℕ) → 6 ≤ length s → length (retext f s) ≡ length s
+  pub retext-length : (s : List ℕ) → headSize ≤ length s → length (retext f s) ≡ length s
   retext-length s h = simp (length-append, same, length-take, length-drop) (omega arith)
 
-  retext-six : (s : List ℕ) → 6 ≤ length s → take 6 (retext f s) ≡ take 6 s
-  retext-six s h = take-at (take 6 s) (f (drop 6 s)) 6 (length-take-le 6 s h)
+  retext-six : (s : List ℕ) → headSize ≤ length s → take headSize (retext f s) ≡ take headSize s
+  retext-six s h = take-at (take headSize s) (f (drop headSize s)) headSize (length-take-le headSize s h)
 
-  retext-at : (s : List ℕ) (i : ℕ) → 6 ≤ length s → i < 6 → getD (retext f s) i 0 ≡ getD s i 0
-  retext-at s i h l = List·getD-append (take 6 s) (f (drop 6 s)) 0 i (omega (arith, length-take-le 6 s h)) ∙ getD-take 6 s i 0 l
+  retext-at : (s : List ℕ) (i : ℕ) → headSize ≤ length s → i < headSize → getD (retext f s) i 0 ≡ getD s i 0
+  retext-at s i h l = List·getD-append (take headSize s) (f (drop headSize s)) 0 i (omega (arith, length-take-le headSize s h)) ∙ getD-take headSize s i 0 l
 
   retext-fit : (s : List ℕ) → Fit s → Fit (retext f s)
   unfolding badHead
   retext-fit s t =
-      let six : 6 ≤ length s = omega (arith, t .whole .size) in
+      let six : headSize ≤ length s = omega (arith, t .sound .size) in
       let fifth = retext-at s 5 six (lit< tt) in
       record {
-        whole =
+        sound =
             record {
-              head = rw (retext-six s six, retext-at s 4 six (lit< tt), fifth) (t .whole .head);
-              size = rw (fifth, retext-length s six) (t .whole .size);
+              head = rw (retext-six s six, retext-at s 4 six (lit< tt), fifth) (t .sound .head);
+              size = rw (fifth, retext-length s six) (t .sound .size);
             };
         exact = rw (fifth, retext-length s six) (t .exact);
       }
@@ -149,18 +148,18 @@ module _ (f : List ℕ → List ℕ) (same : (x : List ℕ) → length (f x) ≡
   flatten-same end = refl
   flatten-same (more {s} {ss} t g) =
       length-append (retext f s) (flatten (map (retext f) ss))
-      ∙ rw (retext-length s (omega (arith, t .whole .size)), flatten-same g) (sym (length-append s (flatten ss)))
+      ∙ rw (retext-length s (omega (arith, t .sound .size)), flatten-same g) (sym (length-append s (flatten ss)))
 
-  module _ (r : List ℕ) (e : legendCheck r ≡ Sound) (h : length r ≤ 8192) where
-    stored-short : length (flatten (map (retext f) (segments r))) ≤ 8192
+  module _ (r : List ℕ) (e : legendCheck r ≡ Sound) (h : length r ≤ legendSize) where
+    stored-short : length (flatten (map (retext f) (segments r))) ≤ legendSize
     unfolding segments
     stored-short =
         let k = cut-take (λ b. false) (length r) r in
         omega (arith, h, flatten-same (segments-fit r e), ap length (k .1), length-take (k .0) r)
 
-    pub stored-size : length (storedLegends f r) ≡ 8192
+    pub stored-size : length (storedLegends f r) ≡ legendSize
     unfolding storedLegends
-    stored-size = length-padded 8192 (flatten (map (retext f) (segments r))) stored-short
+    stored-size = length-padded legendSize (flatten (map (retext f) (segments r))) stored-short
 
     pub stored-back : storedSegments (storedLegends f r) ≡ map (retext f) (segments r)
     unfolding storedLegends
@@ -173,8 +172,8 @@ module _ (f : List ℕ → List ℕ) (same : (x : List ℕ) → length (f x) ≡
 -- The first fault of a record: an empty one, five bytes, six bytes with a zero before their missing text, one position too many, text that
 -- is short, a second segment with a fault behind a sound one, and the widest sound one.
 pub legend-table : map legendCheck
-    ([] ∷ (0 ∷ 0 ∷ 0 ∷ 0 ∷ 0 ∷ []) ∷ (1 ∷ 1 ∷ 0 ∷ 1 ∷ 1 ∷ 1 ∷ []) ∷ (1 ∷ 1 ∷ 1 ∷ 1 ∷ 2 ∷ 0xCC ∷ zeros 204) ∷ (1 ∷ 1 ∷ 1 ∷ 1 ∷ 1 ∷ 2 ∷ 0 ∷ [])
-    ∷ (1 ∷ 1 ∷ 1 ∷ 1 ∷ 1 ∷ 1 ∷ 0 ∷ 1 ∷ 1 ∷ 1 ∷ 1 ∷ 0 ∷ 1 ∷ 0 ∷ []) ∷ (0xFF ∷ 0xFF ∷ 0xFF ∷ 0xFF ∷ 1 ∷ 0xCC ∷ zeros 204)
+    ([] ∷ (0 ∷ 0 ∷ 0 ∷ 0 ∷ 0 ∷ []) ∷ (1 ∷ 1 ∷ 0 ∷ 1 ∷ 1 ∷ 1 ∷ []) ∷ (1 ∷ 1 ∷ 1 ∷ 1 ∷ 2 ∷ lineWidth ∷ zeros lineWidth) ∷ (1 ∷ 1 ∷ 1 ∷ 1 ∷ 1 ∷ 2 ∷ 0 ∷ [])
+    ∷ (1 ∷ 1 ∷ 1 ∷ 1 ∷ 1 ∷ 1 ∷ 0 ∷ 1 ∷ 1 ∷ 1 ∷ 1 ∷ 0 ∷ 1 ∷ 0 ∷ []) ∷ (0xFF ∷ 0xFF ∷ 0xFF ∷ 0xFF ∷ 1 ∷ lineWidth ∷ zeros lineWidth)
     ∷ [])
     ≡ Faulty SegmentEnds ∷ Faulty SegmentEnds ∷ Faulty SegmentFields ∷ Faulty SegmentFields ∷ Faulty SegmentEnds ∷ Faulty SegmentFields ∷ Sound ∷ []
 unfolding legendCheck segments cut badHead flatten firstOr when

@@ -15,6 +15,7 @@ use Rattle.seq.proofs.Laws.{and-right, or-left, or-right, cond-has, passed}
 use Rattle.numbers.specs.declared.Cause.the-variants.{SegmentEnds, SegmentFields}
 use Rattle.numbers.specs.declared.Checked.{Checked}
 use Rattle.numbers.specs.declared.Checked.the-variants.{Sound, Faulty}
+use Rattle.numbers.specs.Sizes.{lineWidth}
 use Rattle.numbers.specs.Numbers.{isSound}
 use Rattle.numbers.proofs.Laws.{faulty, sound-is}
 use Rattle.legends.specs.Legends.{headSize, segmentLength, badHead, segmentTests, cut, segments, legendCheck, storedSegments}
@@ -29,21 +30,21 @@ judged s = firstOr Sound (flatten (map segmentTests (segments s)))
 abbrev pub rest : List ℕ → List ℕ
 rest s = drop (segmentLength s) s
 
--- A segment without fault: six bytes that say what they may, and at least its text.
-pub record Whole (s : List ℕ) : Type 0 where
+-- Bytes that begin with a segment without fault: its six bytes say what they may, and its text follows.
+pub record SoundFirst (s : List ℕ) : Type 0 where
   pub head : badHead s ≡ false
   pub size : segmentLength s ≤ length s
 
 -- where its tests and those after them find nothing, it is one, and those after them find nothing
-pub tested : (s : List ℕ) (ts : List (Option Checked)) → firstOr Sound (segmentTests s ++ ts) ≡ Sound → Whole s × (firstOr Sound ts ≡ Sound)
+pub tested : (s : List ℕ) (ts : List (Option Checked)) → firstOr Sound (segmentTests s ++ ts) ≡ Sound → SoundFirst s × (firstOr Sound ts ≡ Sound)
 tested s ts e =
     let h₁ = passed (ltb (length s) headSize) _ faulty e in
     let h₂ = passed (badHead s) _ faulty (h₁ .1) in
     let h₃ = passed (ltb (length s) (segmentLength s)) _ faulty (h₂ .1) in
     (record { head = h₂ .0; size = ltb-false (length s) (segmentLength s) (h₃ .0) }, h₃ .1)
 
-pub whole : (s : List ℕ) → isSound (found s) ≡ true → Whole s
-whole s e = tested s [] (sound-is (found s) e) .0
+pub sound-first : (s : List ℕ) → isSound (found s) ≡ true → SoundFirst s
+sound-first s e = tested s [] (sound-is (found s) e) .0
 
 -- none of its six bytes is 00, and its positions end within a line
 none-zero : (k : ℕ) (xs : List ℕ) → any (λ b. eqb b 0) xs ≡ false → k < length xs → 1 ≤ getD xs k 0
@@ -51,26 +52,26 @@ none-zero k [] e h = absurd (not-suc-le-zero h)
 none-zero zero (x ∷ xs) e h = omega (arith, eqb-false x 0 (or-left (eqb x 0) (any (λ b. eqb b 0) xs) e))
 none-zero (suc k) (x ∷ xs) e h = none-zero k xs (or-right (eqb x 0) (any (λ b. eqb b 0) xs) e) (le-of-suc-le-suc h)
 
-module _ (s : List ℕ) (w : Whole s) where
+module _ (s : List ℕ) (w : SoundFirst s) where
   abbrev ends : ℕ
   ends = getD s 4 0 + getD s 5 0
 
-  pub byte-set : (k : ℕ) → k < 6 → 1 ≤ getD s k 0
+  pub byte-set : (k : ℕ) → k < headSize → 1 ≤ getD s k 0
   unfolding badHead
   byte-set k h =
-      let n = length-take-le 6 s (omega (arith, w .size)) in
-      rw (← getD-take 6 s k 0 h) (none-zero k (take 6 s) (or-left _ (not (leb 2 ends && leb ends 205)) (w .head)) (omega (arith, n, h)))
+      let n = length-take-le headSize s (omega (arith, w .size)) in
+      rw (← getD-take headSize s k 0 h) (none-zero k (take headSize s) (or-left _ (not (leb 2 ends && leb ends (lineWidth + 1))) (w .head)) (omega (arith, n, h)))
 
-  pub ends-in-line : ends ≤ 205
+  pub ends-in-line : ends ≤ lineWidth + 1
   unfolding badHead
-  ends-in-line = leb-true ends 205 (and-right (leb 2 ends) _ (not-false _ (or-right (any (λ b. eqb b 0) (take 6 s)) _ (w .head))))
+  ends-in-line = leb-true ends (lineWidth + 1) (and-right (leb 2 ends) _ (not-false _ (or-right (any (λ b. eqb b 0) (take headSize s)) _ (w .head))))
 
 -- The segment at a place of s: its six bytes; its end, and what follows, if it has m bytes.
-pub six-at : (s : List ℕ) (at : ℕ) → Whole (drop at s) → at + 6 ≤ length s
+pub six-at : (s : List ℕ) (at : ℕ) → SoundFirst (drop at s) → at + headSize ≤ length s
 six-at s at w = omega (arith, w .size, length-drop at s)
 
 module _ (s : List ℕ) (at m : ℕ) (e : m ≡ segmentLength (drop at s)) where
-  pub end-at : Whole (drop at s) → at + m ≤ length s
+  pub end-at : SoundFirst (drop at s) → at + m ≤ length s
   end-at w = omega (arith, e, w .size, length-drop at s)
 
   pub rest-at : rest (drop at s) ≡ drop (at + m) s
@@ -88,8 +89,8 @@ pub tests-front : (s : List ℕ) → segmentTests (take (segmentLength s) s) ≡
 unfolding badHead
 tests-front s =
     let m = segmentLength s in
-    let at : (k : ℕ) → k < 6 → getD (take m s) k 0 ≡ getD s k 0 = λ k h. getD-take m s k 0 (omega arith) in
-    rw (at 5 (omega arith), at 4 (omega arith), take-take 6 m s (omega arith), ltb-take 6 m s (omega arith), ltb-take m m s (omega arith))
+    let at : (k : ℕ) → k < headSize → getD (take m s) k 0 ≡ getD s k 0 = λ k h. getD-take m s k 0 (omega arith) in
+    rw (at 5 (omega arith), at 4 (omega arith), take-take headSize m s (omega arith), ltb-take headSize m s (omega arith), ltb-take m m s (omega arith))
 
 -- Cuts: of nothing, of a segment more; of as many bytes as they take; and the same with more fuel than bytes.
 module _ (ends : ℕ → Bool) where
@@ -166,10 +167,10 @@ judged-next s h =
     let ts = flatten (map segmentTests (segments (rest s))) in
     ap (λ (ss : List (List ℕ)). firstOr Sound (flatten (map segmentTests ss))) (segments-next s h)
     ∙ ap (λ (us : List (Option Checked)). firstOr Sound (us ++ ts)) (tests-front s)
-    ∙ first-three (ltb (length s) 6) (badHead s) (ltb (length s) (segmentLength s)) ts
+    ∙ first-three (ltb (length s) headSize) (badHead s) (ltb (length s) (segmentLength s)) ts
 
 pub judged-sound : (s : List ℕ) → isSound (found s) ≡ true → judged s ≡ judged (rest s)
-judged-sound s e = judged-next s (omega (arith, whole s e .size)) ∙ rw e
+judged-sound s e = judged-next s (omega (arith, sound-first s e .size)) ∙ rw e
 
 pub judged-faulty : (s : List ℕ) → 0 < length s → isSound (found s) ≡ false → judged s ≡ found s
 judged-faulty s h e = judged-next s h ∙ rw e

@@ -11,24 +11,25 @@ use borrow.Author.Tests.{eqb-true, ne-eqb}
 use Rattle.seq.specs.Words.{all, firstOr, every, zeros, padded, zeroFrom}
 use Rattle.seq.proofs.Laws.{and-left, passed}
 use Rattle.numbers.specs.declared.Checked.the-variants.{Sound}
+use Rattle.numbers.specs.Sizes.{legendSize}
 use Rattle.numbers.specs.Numbers.{isSound}
 use Rattle.numbers.proofs.Laws.{faulty}
 use Rattle.seq.proofs.Loops.{any-append}
 use Rattle.line.specs.Line.{unprintable, translated, anyUnprintable}
 use Rattle.line.proofs.LineLaws.{length-translated}
-use Rattle.legends.proofs.SegmentLaws.{found, judged, rest, Whole, whole, byte-set, end-at, rest-at, tests-front, cut-take, cut-end}
+use Rattle.legends.proofs.SegmentLaws.{found, judged, rest, SoundFirst, sound-first, byte-set, end-at, rest-at, tests-front, cut-take, cut-end}
 use Rattle.legends.proofs.SegmentLaws.{segments-next, stored-next, judged-sound, judged-faulty, empty-or-sound}
 use Rattle.legends.proofs.LegendLaws.{retext-length}
 use Rattle.legends.specs.Legends.{headSize, segmentLength, segmentTests, cut, segments, legendCheck, retext, storedLegends, legendText}
 use Rattle.legends.specs.Legends.{storedSegments, legendsOk}
 
--- Bytes that begin with a whole segment of s are tested as s.
+-- Bytes that begin with the first segment of s are tested as s.
 found-same : (r s : List ℕ) → take (segmentLength s) r ≡ take (segmentLength s) s → (segmentLength r ≡ segmentLength s) × (found r ≡ found s)
 found-same r s e =
     let m = segmentLength s in
     let x : getD r 5 0 ≡ getD s 5 0 =
     sym (getD-take m r 5 0 (omega arith)) ∙ ap (λ (q : List ℕ). getD q 5 0) e ∙ getD-take m s 5 0 (omega arith) in
-    let l : segmentLength r ≡ m = ap (λ (k : ℕ). 6 + k) x in
+    let l : segmentLength r ≡ m = ap (λ (k : ℕ). headSize + k) x in
     (l, ap (firstOr Sound) (sym (tests-front r) ∙ ap (λ (k : ℕ). segmentTests (take k r)) l ∙ ap segmentTests e ∙ tests-front s))
 
 -- Legends that do not begin with 00: their first segment, then the others.
@@ -51,13 +52,13 @@ ok-is : (s : List ℕ) → legendsOk s ≡ (isSound (judged (flatten (storedSegm
 unfolding legendsOk every
 ok-is s = rw (empty-or-sound (flatten (storedSegments s)), and-true)
 
-pub first-set : (s : List ℕ) → Whole s → eqb (getD s 0 0) 0 ≡ false
+pub first-set : (s : List ℕ) → SoundFirst s → eqb (getD s 0 0) 0 ≡ false
 first-set s w = ne-eqb (getD s 0 0) 0 (λ e. omega (arith, e, byte-set s w 0 (lit< tt)))
 
 pub ok-sound : (s : List ℕ) → isSound (found s) ≡ true → legendsOk s ≡ legendsOk (rest s)
 ok-sound s e =
     let m = segmentLength s in
-    let w = whole s e in
+    let w = sound-first s e in
     let r = flatten (storedSegments s) in
     let q = flatten (storedSegments (rest s)) in
     let some : 0 < length s = omega (arith, w .size) in
@@ -102,9 +103,9 @@ ok-front [] e some = absurd (some refl)
 ok-front (b ∷ bs) e some = holds _ (λ t. some (eqb-true b 0 (and-left (eqb b 0) _ (sym (ok-end (b ∷ bs) t) ∙ e))))
 
 -- A record that its load takes, and is stored segment by segment: its front is sound while there is one.
-front-sound : (s : List ℕ) → 0 < length s → judged s ≡ Sound → isSound (found s) ≡ true
+judged-first : (s : List ℕ) → 0 < length s → judged s ≡ Sound → isSound (found s) ≡ true
 unfolding isSound
-front-sound s h e = holds _ (λ t. false≢true (sym t ∙ ap isSound (sym (judged-faulty s h t) ∙ e)))
+judged-first s h e = holds _ (λ t. false≢true (sym t ∙ ap isSound (sym (judged-faulty s h t) ∙ e)))
 
 abbrev stored : (List ℕ → List ℕ) → List ℕ → List ℕ
 stored f s = flatten (map (retext f) (segments s))
@@ -117,12 +118,12 @@ any-text ps t r q = any-append (λ b. unprintable ps (getD t b 0)) r q
 module _ (ps t sent : List ℕ) where
   pub record Storing (out : List ℕ) (bad : Bool) (at : ℕ) : Type 0 where
     pub within : at ≤ length sent
-    pub size : length out ≡ 8192
+    pub size : length out ≡ legendSize
     pub sound : judged (drop at sent) ≡ Sound
     pub cells : take at out ++ stored (translated ps t) (drop at sent) ≡ stored (translated ps t) sent
     pub text : (bad || anyUnprintable ps t (legendText (drop at sent))) ≡ anyUnprintable ps t (legendText sent)
 
-  pub storing-start : (out : List ℕ) → length out ≡ 8192 → legendCheck sent ≡ Sound → Storing out false 0
+  pub storing-start : (out : List ℕ) → length out ≡ legendSize → legendCheck sent ≡ Sound → Storing out false 0
   unfolding legendCheck
   storing-start out l e = record { within = omega arith; size = l; sound = passed _ _ faulty e .1; cells = refl; text = refl }
 
@@ -134,12 +135,12 @@ module _ (ps t sent : List ℕ) where
     some = rw length-drop (omega arith)
 
     front : isSound (found left) ≡ true
-    front = front-sound left some (so-far .sound)
+    front = judged-first left some (so-far .sound)
 
-    pub storing-whole : Whole left
-    storing-whole = whole left front
+    pub storing-first : SoundFirst left
+    storing-first = sound-first left front
 
-    module _ (room : length sent ≤ 8192) (m : ℕ) (e : m ≡ segmentLength left) where
+    module _ (room : length sent ≤ legendSize) (m : ℕ) (e : m ≡ segmentLength left) where
       abbrev first : List ℕ
       first = take m left
 
@@ -147,7 +148,7 @@ module _ (ps t sent : List ℕ) where
       cells-of = retext (translated ps t) first
 
       first-length : length first ≡ m
-      first-length = length-take-le m left (omega (arith, e, storing-whole .size))
+      first-length = length-take-le m left (omega (arith, e, storing-first .size))
 
       cells-length : length cells-of ≡ m
       cells-length = retext-length (translated ps t) (length-translated ps t) first (omega (arith, e, first-length)) ∙ first-length
@@ -159,7 +160,7 @@ module _ (ps t sent : List ℕ) where
       unfolding flatten legendText
       step =
           let next = rest-at sent at m e in
-          let end = end-at sent at m e storing-whole in
+          let end = end-at sent at m e storing-first in
           let q = drop m (drop at out) in
           let f = translated ps t in
           let done : length (take at out ++ cells-of) ≡ at + m =
@@ -188,8 +189,8 @@ module _ (ps t sent : List ℕ) where
           → Storing (take at out ++ (ys ++ drop m (drop at out))) (bad || b) (at + m)
       storing-more ys b y u = rw (y, u) step
 
-  pub storing-end : (out : List ℕ) (bad : Bool) (at : ℕ) → length sent ≤ 8192 → length sent ≤ at → Storing out bad at
-      → (take (length sent) out ++ zeros (8192 - length sent) ≡ storedLegends (translated ps t) sent) × (bad ≡ anyUnprintable ps t (legendText sent))
+  pub storing-end : (out : List ℕ) (bad : Bool) (at : ℕ) → length sent ≤ legendSize → length sent ≤ at → Storing out bad at
+      → (take (length sent) out ++ zeros (legendSize - length sent) ≡ storedLegends (translated ps t) sent) × (bad ≡ anyUnprintable ps t (legendText sent))
   unfolding storedLegends padded legendText anyUnprintable segments cut flatten
   storing-end out bad at room over so-far =
       let n = length sent in
@@ -199,6 +200,6 @@ module _ (ps t sent : List ℕ) where
       let cells : take n out ≡ stored f sent =
       sym (append-nil (take n out)) ∙ (λ i. take (end i) out ++ stored f (none i)) ∙ so-far .cells in
       let size : n ≡ length (stored f sent) = sym (length-take-le n out (omega (arith, so-far .size))) ∙ ap length cells in (
-        λ i. cells i ++ zeros (8192 - size i),
+        λ i. cells i ++ zeros (legendSize - size i),
         sym (or-false bad) ∙ ap (λ (r : List ℕ). bad || anyUnprintable ps t (legendText r)) none ∙ so-far .text,
       )

@@ -112,10 +112,16 @@ shown [] number line position c = c
 shown (g ∷ gs) number line position c =
     shown gs number line position (cond (covers g number line position) (getD (g .text) (position - g .firstPosition) 0) c)
 
--- The cells of a copy; i counts the page's cells from 0.
+-- The cells of a copy; i counts the page's cells from 0, and lines and positions count from 1.
+abbrev pub lineOf : ℕ → ℕ
+lineOf i = i / lineWidth + 1
+
+abbrev pub positionOf : ℕ → ℕ
+positionOf i = i % lineWidth + 1
+
 unfoldable pub copyFrom : List Segment → ℕ → ℕ → List ℕ → List ℕ
 copyFrom gs number i [] = []
-copyFrom gs number i (c ∷ cs) = shown gs number (i / lineWidth + 1) (i % lineWidth + 1) c ∷ copyFrom gs number (suc i) cs
+copyFrom gs number i (c ∷ cs) = shown gs number (lineOf i) (positionOf i) c ∷ copyFrom gs number (suc i) cs
 
 -- The composed copy with this number: the cells of the page's P lines.
 unfoldable pub composed : List ℕ → List ℕ → ℕ → ℕ → List ℕ

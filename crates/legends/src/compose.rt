@@ -1,12 +1,14 @@
-// Composing a copy: the page's lines, with the segments of the legends over them in their order.
+// Document 01, "Copies and legends": composing a copy, the page's lines, with the segments of the legends over them in their order.
+use crate::HEAD_BYTES;
 use crate::segment_length;
+use numbers::Stores;
 ghost use mathlib.Core.Path.{_≡_};
 ghost use mathlib.Core.Bool.{true, false};
 ghost use mathlib.Core.List.{[], _∷_, _++_, map};
 ghost use Prim.Native.Nat.{_+_, _*_, _-_, _≤_};
 ghost use lib.ListN.{length, getD, drop};
-ghost use Rattle.numbers.specs.Sizes.{lineBytes};
-ghost use Rattle.legends.specs.Legends.{segmentOf, segmentLength, badHead, storedSegments, legendsOk, copyFrom, composed};
+ghost use Rattle.numbers.specs.Sizes.{lineWidth, lineBytes};
+ghost use Rattle.legends.specs.Legends.{headSize, segmentOf, segmentLength, badHead, storedSegments, legendsOk, copyFrom, composed};
 
 // From one slice to another by the front of a block.
 fn copy_by(block: &mut [u8], to: &mut [u8], from: &[u8])
@@ -19,31 +21,30 @@ fn copy_by(block: &mut [u8], to: &mut [u8], from: &[u8])
     seq::copy_all(to, &block[0..n]);
 }
 
-// As many as 255 lines, by a local: two lent slices could overlap for all that the compiler knows. It leaves the local out again, and one move
-// remains.
+// As many as 255 lines, by a local: for all that the compiler knows, two lent slices could overlap. It leaves the local out, and one move remains.
 fn move_all(to: &mut [u8], from: &[u8])
     requires { ⌜ length (now to) ≡ length (now from) ⌝ }
     requires { ⌜ length (now from) ≤ lineBytes * 255 ⌝ }
     ensures { λ _. ⌜ now (to .exit) ≡ now (from .entry) ⌝ }
 {
-    let mut block = [0u8; 52020];
+    let mut block = [0u8; 255 * Stores::LINE_BYTES];
     copy_by(&mut block, to, from);
 }
 
 // The text of the segment at a place, as a part of the lent legends.
 pub fn text(legends: &[u8], at: usize) -> &[u8]
-    requires { ⌜ at + 6 + getD (now legends) (at + 5) 0 ≤ length (now legends) ⌝ }
+    requires { ⌜ at + headSize + getD (now legends) (at + 5) 0 ≤ length (now legends) ⌝ }
     ensures { λ r. ⌜ now r ≡ segmentOf (drop at (now (legends .entry))) .text ⌝ }
 {
-    let start = at + 6;
+    let start = at + HEAD_BYTES;
     let end = start + seq::wide(legends[at + 5]);
     &legends[start..end]
 }
 
-// Lays a text into the rows before `end` from `row` on, in each from a place on, all counted from 0: what a segment of copy 0 alone shows.
-fn lay(out: &mut [u8], text: &[u8], row: usize, end: usize, place: usize)
+// Paints a text into the rows from `row` to `end`, in each from a place on, all counted from 0: what a segment of copy 0 alone shows.
+fn paint_rows(out: &mut [u8], text: &[u8], row: usize, end: usize, place: usize)
     requires { ⌜ lineBytes * end ≤ length (now out) ⌝ }
-    requires { ⌜ place + length (now text) ≤ 204 ⌝ }
+    requires { ⌜ place + length (now text) ≤ lineWidth ⌝ }
     ensures { λ _. ⌜ now (out .exit) ≡ copyFrom (record {
       firstCopy = 0;
       copies = 1;
@@ -57,7 +58,7 @@ fn lay(out: &mut [u8], text: &[u8], row: usize, end: usize, place: usize)
     let n = text.len();
     let mut i = row;
     while i < end {
-        let at = i * 204 + place;
+        let at = i * Stores::LINE_BYTES + place;
         let past = at + n;
         move_all(&mut out[at..past], text);
         i += 1;
@@ -82,7 +83,7 @@ fn paint(out: &mut [u8], legends: &[u8], at: usize, number: usize, lines: usize)
     let row = seq::wide(legends[at + 2]) - 1;
     let end = seq::least(row + seq::wide(legends[at + 3]), lines);
     let place = seq::wide(legends[at + 4]) - 1;
-    lay(out, text(legends, at), row, end, place);
+    paint_rows(out, text(legends, at), row, end, place);
 }
 
 fn paint_all(out: &mut [u8], legends: &[u8], number: usize, lines: usize)
@@ -100,15 +101,14 @@ fn paint_all(out: &mut [u8], legends: &[u8], number: usize, lines: usize)
     }
 }
 
-fn compose_in(out: &mut [u8], page: &[u8], legends: &[u8], number: usize, lines: usize)
-    requires { ⌜ lines ≤ 255 ⌝ }
+fn compose_in(out: &mut [u8], page: &[u8], legends: &[u8], number: usize, lines: u8)
     requires { ⌜ legendsOk (now legends) ≡ true ⌝ }
     requires { ⌜ length (now page) ≡ lineBytes * lines ⌝ }
     requires { ⌜ length (now out) ≡ lineBytes * lines ⌝ }
     ensures { λ _. ⌜ now (out .exit) ≡ copyFrom (map segmentOf (storedSegments (now (legends .entry)))) number 0 (now (page .entry)) ⌝ }
 {
     move_all(out, page);
-    paint_all(out, legends, number, lines);
+    paint_all(out, legends, number, seq::wide(lines));
 }
 
 // The composed copy with this number into the output; bytes after its lines keep their values.
@@ -119,13 +119,12 @@ pub fn compose(out: &mut [u8], page: &[u8], legends: &[u8], number: u16, lines: 
     ensures { λ _. ⌜ now (out .exit)
         ≡ composed (now (page .entry)) (now (legends .entry)) lines number ++ drop (lineBytes * lines) (now (out .entry)) ⌝ }
 {
-    let count = seq::wide(lines);
-    let end = 204 * count;
+    let end = Stores::LINE_BYTES * seq::wide(lines);
     compose_in(
         &mut out[0..end],
         &page[0..end],
         legends,
         number as usize,
-        count,
+        lines,
     );
 }

@@ -3,34 +3,42 @@ pub mod compose;
 
 use numbers::Cause;
 use numbers::Checked;
+use numbers::Stores;
 ghost use mathlib.Core.Path.{_≡_};
 ghost use mathlib.Core.Bool.{false};
 ghost use mathlib.Core.List.{map, flatten};
 ghost use Prim.Native.Nat.{_+_, _≤_};
 ghost use lib.ListN.{length, drop};
 ghost use Rattle.seq.specs.Words.{firstOr};
+ghost use Rattle.numbers.specs.Sizes.{legendSize, slotSize};
 ghost use Rattle.numbers.specs.Numbers.{isSound};
 ghost use Rattle.numbers.specs.declared.Checked.the-variants.{Sound};
 ghost use Rattle.line.specs.Line.{translated, anyUnprintable};
-ghost use Rattle.legends.specs.Legends.{segmentLength, badHead, segmentTests, segments, legendCheck, legendsOk};
+ghost use Rattle.legends.specs.Legends.{headSize, segmentLength, badHead, segmentTests, segments, legendCheck, legendsOk};
 ghost use Rattle.legends.specs.Legends.{retext, storedLegends, legendText};
+
+// The bytes of a segment before its text.
+const HEAD_BYTES: usize = 6;
+
+// The position after the last of a line: where a segment's positions end at the latest.
+const LINE_END: usize = Stores::LINE_CELLS + 1;
 
 // Joined from the left: nested the other way, the tests become vector operations, for which the next segment's place has to wait.
 fn bad_head(s: &[u8]) -> bool
-    requires { ⌜ 6 ≤ length (now s) ⌝ }
+    requires { ⌜ headSize ≤ length (now s) ⌝ }
     ensures { λ r. ⌜ r ≡ badHead (now (s .entry)) ⌝ }
 {
     let end = seq::wide(s[4]) + seq::wide(s[5]);
     let zero = (s[0] == 0) | (s[1] == 0) | (s[2] == 0) | (s[3] == 0) | (s[4] == 0) | (s[5] == 0);
-    zero | !((2 <= end) & (end <= 205))
+    zero | !((2 <= end) & (end <= LINE_END))
 }
 
 // How many bytes the segment at a place of s has.
 pub fn segment_length(s: &[u8], at: usize) -> usize
-    requires { ⌜ at + 6 ≤ length (now s) ⌝ }
-    ensures { λ r. ⌜ (r ≡ segmentLength (drop at (now (s .entry)))) × (r ≤ 261) ⌝ }
+    requires { ⌜ at + headSize ≤ length (now s) ⌝ }
+    ensures { λ r. ⌜ (r ≡ segmentLength (drop at (now (s .entry)))) × (r ≤ headSize + 255) ⌝ }
 {
-    6 + seq::wide(s[at + 5])
+    HEAD_BYTES + seq::wide(s[at + 5])
 }
 
 // What the tests of the segment at the front of s find.
@@ -38,7 +46,7 @@ fn segment_check(s: &[u8]) -> Checked
     ensures { λ r. ⌜ r ≡ firstOr Sound (segmentTests (now (s .entry))) ⌝ }
 {
     let n = s.len();
-    if n < 6 {
+    if n < HEAD_BYTES {
         return Checked::Faulty(Cause::SegmentEnds);
     }
     if bad_head(s) {
@@ -67,7 +75,7 @@ fn sound_end(s: &[u8]) -> usize
 }
 
 pub fn legend_check(sent: &[u8]) -> Checked
-    requires { ⌜ length (now sent) ≤ 8192 ⌝ }
+    requires { ⌜ length (now sent) ≤ legendSize ⌝ }
     ensures { λ r. ⌜ r ≡ legendCheck (now (sent .entry)) ⌝ }
 {
     let n = sent.len();
@@ -82,31 +90,31 @@ pub fn legend_check(sent: &[u8]) -> Checked
 }
 
 pub fn legends_ok(legends: &[u8]) -> bool
-    requires { ⌜ length (now legends) ≡ 8192 ⌝ }
+    requires { ⌜ length (now legends) ≡ legendSize ⌝ }
     ensures { λ r. ⌜ r ≡ legendsOk (now (legends .entry)) ⌝ }
 {
     let at = sound_end(legends);
     seq::zero_from(legends, at)
 }
 
-// One segment of a load: its six bytes, and its text through the table. Says whether anything in the text was unprintable.
+// One segment of a load: its head, and its text through the table. Says whether anything in the text was unprintable.
 fn store_segment(to: &mut [u8], from: &[u8], pitches: [u8; 4], table: &[u8]) -> bool
-    requires { ⌜ (length (now to) ≡ length (now from)) × (6 ≤ length (now from)) ⌝ }
-    requires { ⌜ length (now table) ≡ 256 ⌝ }
+    requires { ⌜ (length (now to) ≡ length (now from)) × (headSize ≤ length (now from)) ⌝ }
+    requires { ⌜ length (now table) ≡ slotSize ⌝ }
     ensures to { λ _. ⌜ now (to .exit) ≡ retext (translated pitches (now (table .entry))) (now (from .entry)) ⌝ }
-    ensures found { λ r. ⌜ r ≡ anyUnprintable pitches (now (table .entry)) (drop 6 (now (from .entry))) ⌝ }
+    ensures found { λ r. ⌜ r ≡ anyUnprintable pitches (now (table .entry)) (drop headSize (now (from .entry))) ⌝ }
 {
     let n = from.len();
-    seq::copy_all(&mut to[0..6], &from[0..6]);
-    line::translate::translate(&mut to[6..n], &from[6..n], pitches, table)
+    seq::copy_all(&mut to[0..HEAD_BYTES], &from[0..HEAD_BYTES]);
+    line::translate::translate(&mut to[HEAD_BYTES..n], &from[HEAD_BYTES..n], pitches, table)
 }
 
 // All segments of a record that passed, and 00 after them. Says whether anything in their text was unprintable.
 pub fn store_legends(legends: &mut [u8], sent: &[u8], pitches: [u8; 4], table: &[u8]) -> bool
-    requires { ⌜ length (now legends) ≡ 8192 ⌝ }
-    requires { ⌜ length (now sent) ≤ 8192 ⌝ }
+    requires { ⌜ length (now legends) ≡ legendSize ⌝ }
+    requires { ⌜ length (now sent) ≤ legendSize ⌝ }
     requires { ⌜ legendCheck (now sent) ≡ Sound ⌝ }
-    requires { ⌜ length (now table) ≡ 256 ⌝ }
+    requires { ⌜ length (now table) ≡ slotSize ⌝ }
     ensures legends { λ _. ⌜ now (legends .exit) ≡ storedLegends (translated pitches (now (table .entry))) (now (sent .entry)) ⌝ }
     ensures found { λ r. ⌜ r ≡ anyUnprintable pitches (now (table .entry)) (legendText (now (sent .entry))) ⌝ }
 {
@@ -118,6 +126,6 @@ pub fn store_legends(legends: &mut [u8], sent: &[u8], pitches: [u8; 4], table: &
         found = found | store_segment(&mut legends[at..end], &sent[at..end], pitches, table);
         at = end;
     }
-    seq::fill(&mut legends[n..8192], 0);
+    seq::fill(&mut legends[n..Stores::LEGEND_BYTES], 0);
     found
 }

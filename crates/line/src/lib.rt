@@ -3,9 +3,11 @@ mod merge;
 pub mod tables;
 pub mod translate;
 
+use numbers::Stores;
 ghost use mathlib.Core.Path.{_≡_};
 ghost use Prim.Native.Nat.{_≤_};
 ghost use lib.ListN.{length};
+ghost use Rattle.numbers.specs.Sizes.{lineWidth, pageLines, pageSize, slotSize, tableSize};
 ghost use Rattle.line.specs.Line.{serving, anyUnprintable, lineCells, lineAt, pageWritten};
 ghost use Rattle.line.specs.Line.{lineCauses, orUnmatched, causeByte};
 
@@ -13,6 +15,14 @@ ghost use Rattle.line.specs.Line.{lineCauses, orUnmatched, causeByte};
 pub struct Slots {
     pub loaded: [bool; 4],
     pub selected: u8,
+}
+
+impl Slots {
+    // Slot 0 alone is loaded, and selected.
+    pub const START: Slots = Slots {
+        loaded: [true, false, false, false],
+        selected: 0,
+    };
 }
 
 // The causes of a data check: 80, 20, 10 and 08 of sense byte 1.
@@ -32,11 +42,11 @@ impl Causes {
     };
 }
 
-// The cells of a whole line: the record's, and the stand-in after them. Says whether anything in the record was unprintable.
+// All cells of a line: the record's, and the stand-in after them. Says whether anything in the record was unprintable.
 fn make_line(cells: &mut [u8], sent: &[u8], pitches: [u8; 4], table: &[u8]) -> bool
-    requires { ⌜ length (now cells) ≡ 204 ⌝ }
-    requires { ⌜ length (now sent) ≤ 204 ⌝ }
-    requires { ⌜ length (now table) ≡ 256 ⌝ }
+    requires { ⌜ length (now cells) ≡ lineWidth ⌝ }
+    requires { ⌜ length (now sent) ≤ lineWidth ⌝ }
+    requires { ⌜ length (now table) ≡ slotSize ⌝ }
     ensures cells { λ _. ⌜ now (cells .exit) ≡ lineCells pitches (now (table .entry)) (now (sent .entry)) ⌝ }
     ensures found { λ r. ⌜ r ≡ anyUnprintable pitches (now (table .entry)) (now (sent .entry)) ⌝ }
 {
@@ -45,7 +55,7 @@ fn make_line(cells: &mut [u8], sent: &[u8], pitches: [u8; 4], table: &[u8]) -> b
     translate::translate(&mut cells[0..n], sent, pitches, table)
 }
 
-// Writes the record on a line of the page, counted from 1; `later`, if that was written before: its cells are made aside then, and merged.
+// Writes the record on a line of the page, counted from 1. A line that was written before, `later`, has its new cells made aside and merged.
 pub fn write_line(
     page: &mut [u8],
     line: u8,
@@ -56,21 +66,21 @@ pub fn write_line(
     tables: &[u8],
 ) -> Causes
     requires { ⌜ 1 ≤ line ⌝ }
-    requires { ⌜ line ≤ 132 ⌝ }
-    requires { ⌜ length (now page) ≡ 26928 ⌝ }
-    requires { ⌜ length (now sent) ≤ 204 ⌝ }
+    requires { ⌜ line ≤ pageLines ⌝ }
+    requires { ⌜ length (now page) ≡ pageSize ⌝ }
+    requires { ⌜ length (now sent) ≤ lineWidth ⌝ }
     requires { ⌜ slots .selected ≤ 3 ⌝ }
-    requires { ⌜ length (now tables) ≡ 1024 ⌝ }
+    requires { ⌜ length (now tables) ≡ tableSize ⌝ }
     ensures page { λ _. ⌜ now (page .exit)
         ≡ pageWritten later line (lineCells pitches (serving slots (now (tables .entry))) (now (sent .entry))) (now (page .entry)) ⌝ }
     ensures causes { λ r. ⌜ r ≡ lineCauses pitches slots (now (tables .entry)) later (lineAt line (now (page .entry))) (now (sent .entry)) ⌝ }
 {
-    let at = 204 * (seq::wide(line) - 1);
-    let end = at + 204;
+    let at = Stores::LINE_BYTES * (seq::wide(line) - 1);
+    let end = at + Stores::LINE_BYTES;
     let table = tables::serving(slots, tables);
     let unloaded = !tables::is_loaded(slots);
     if later {
-        let mut cells = [0u8; 204];
+        let mut cells = [0u8; Stores::LINE_CELLS];
         let unprintable = make_line(&mut cells, sent, pitches, table);
         let collision = merge::merge(&mut page[at..end], &cells);
         return Causes {

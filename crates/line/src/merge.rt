@@ -1,4 +1,4 @@
-// A second write on a line: old cells and new ones.
+// Document 01, "Writing a line": a later write on a line merges its cells with the old ones.
 ghost use mathlib.Core.Path.{_≡_};
 ghost use lib.ListN.{length};
 ghost use Rattle.line.specs.Line.{isBlank, isUnderscore, mergeCell, collides, mergeLine, anyCollides};
@@ -15,7 +15,7 @@ fn is_underscore(code: u8) -> bool
     code % 64 == 0x2D
 }
 
-// What the merge rules come to, with no branch.
+// The merge rules, with no branch.
 fn merge_cell(old: u8, new: u8) -> u8
     ensures { λ r. ⌜ r ≡ mergeCell old new ⌝ }
 {

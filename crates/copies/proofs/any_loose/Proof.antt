@@ -4,16 +4,17 @@ use mathlib.Core.Bool.{_||_, or-false, or-assoc}
 use Prim.Native.Nat.{_≤_, _-_}
 use lib.ListN.{drop, drop-of-length-le}
 use borrow.Author.Needs.{needs}
-use Rattle.copies.proofs.KeptLaws.{loose, loose-more, loose-none, loose-is}
+use Rattle.copies.specs.Copies.{pairSize}
+use Rattle.copies.proofs.JudgeLaws.{loose, loose-more, loose-none, loose-is}
 use Rattle.copies.proofs.any_loose.Statement.{statement}
 use Rattle.copies.proofs.any_loose.Tie as tie
 
 abbrev Inv-loop : tie.InvT-loop
 Inv-loop count pairs found₀ k₀ i₀ found k i =
-    (i ≤ 16) × ((k ≡ i) × (count ≤ 16 → loose count 0 pairs ≡ (found || loose count i (drop i pairs))))
+    (i ≤ pairSize) × ((k ≡ i) × (count ≤ pairSize → loose count 0 pairs ≡ (found || loose count i (drop i pairs))))
 
 abbrev μ-loop : tie.MeasureT-loop
-μ-loop count pairs found₀ k₀ i₀ found k i = 16 - i
+μ-loop count pairs found₀ k₀ i₀ found k i = pairSize - i
 
 loop-holds : tie.Need-loop-holds Inv-loop μ-loop
 loop-holds c = (search needs, (refl, λ few. refl))

@@ -3,10 +3,11 @@ use mathlib.Core.Path.{_≡_, _∙_}
 use native.Mathlib.Omega.{arith}
 use lib.ListN.{length, length-take}
 use borrow.Author.Needs.{needs}
+use Rattle.copies.specs.Copies.{pairSize}
 use Rattle.copies.proofs.copy_count.Statement.{statement}
 use Rattle.copies.proofs.copy_count.Tie as tie
 
-size : (c : tie.Start) → length (c .args .pairs .now) ≡ 16
+size : (c : tie.Start) → length (c .args .pairs .now) ≡ pairSize
 size c = search needs
 
 total-copies-requires : tie.Need-total-copies-requires

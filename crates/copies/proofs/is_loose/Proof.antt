@@ -2,7 +2,7 @@
 use Prim.Native.Nat.{_%_}
 use lib.Dec.{eqb, ltb}
 use borrow.Author.Needs.{needs}
-use Rattle.copies.proofs.KeptLaws.{before-count, differs}
+use Rattle.copies.proofs.JudgeLaws.{before-count, differs}
 use Rattle.copies.proofs.is_loose.Statement.{statement}
 use Rattle.copies.proofs.is_loose.Tie as tie
 

@@ -4,13 +4,14 @@ use Prim.Native.Nat.{ℕ, _+_}
 use native.Mathlib.Omega.{arith}
 use lib.Seq.{getD-drop}
 use borrow.Author.Needs.{needs}
+use Rattle.legends.specs.Legends.{headSize}
 use Rattle.legends.proofs.segment_length.Statement.{statement}
 use Rattle.legends.proofs.segment_length.Tie as tie
 
 returns : tie.Need-returns
 returns c =
     let s = c .before .before .before .args .s .now in
-    (ap (λ (k : ℕ). 6 + k) (c .wide .ensures .0 ∙ sym (getD-drop (c .before .before .before .args .at) s 5 0)), omega arith)
+    (ap (λ (k : ℕ). headSize + k) (c .wide .ensures .0 ∙ sym (getD-drop (c .before .before .before .args .at) s 5 0)), omega arith)
 
 pub segment-length-spec : {M : Type 1} → statement M
 segment-length-spec =

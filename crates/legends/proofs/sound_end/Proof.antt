@@ -9,7 +9,7 @@ use borrow.Author.Needs.{needs}
 use Rattle.seq.proofs.Laws.{take-rest}
 use Rattle.numbers.specs.Numbers.{isSound}
 use Rattle.legends.specs.Legends.{legendsOk}
-use Rattle.legends.proofs.SegmentLaws.{found, judged, Whole, whole, six-at, end-at, rest-at, judged-sound}
+use Rattle.legends.proofs.SegmentLaws.{found, judged, SoundFirst, sound-first, six-at, end-at, rest-at, judged-sound}
 use Rattle.legends.proofs.StoredLaws.{ok-sound}
 use Rattle.legends.proofs.sound_end.Statement.{statement}
 use Rattle.legends.proofs.sound_end.Tie as tie
@@ -33,8 +33,8 @@ test c = c .is-sound .ensures ∙ ap isSound (c .before .segment-check .ensures 
 sound : (c : tie.Then1 Inv-loop μ-loop) → isSound (found (Left (c .before))) ≡ true
 sound c = sym (test (c .before)) ∙ c .if1 .taken
 
-there : (c : tie.Then1 Inv-loop μ-loop) → Whole (Left (c .before))
-there c = whole (Left (c .before)) (sound c)
+there : (c : tie.Then1 Inv-loop μ-loop) → SoundFirst (Left (c .before))
+there c = sound-first (Left (c .before)) (sound c)
 
 segment-length-requires : tie.Need-segment-length-requires Inv-loop μ-loop
 segment-length-requires c κs = six-at _ (c .before .before .before .before .loop .at) (there c)

@@ -8,8 +8,9 @@ use lib.ListN.{take, length-take, drop-of-length-le, length, drop, length-drop}
 use lib.Seq.{length-take-le}
 use borrow.Author.Needs.{needs}
 use Rattle.seq.specs.Words.{zeros}
-use Rattle.legends.proofs.SegmentLaws.{Whole, six-at, end-at}
-use Rattle.legends.proofs.StoredLaws.{Storing, storing-start, storing-whole, storing-more, storing-end}
+use Rattle.numbers.specs.Sizes.{legendSize}
+use Rattle.legends.proofs.SegmentLaws.{SoundFirst, six-at, end-at}
+use Rattle.legends.proofs.StoredLaws.{Storing, storing-start, storing-first, storing-more, storing-end}
 use Rattle.legends.proofs.store_legends.Statement.{statement}
 use Rattle.legends.proofs.store_legends.Tie as tie
 
@@ -22,10 +23,10 @@ abbrev μ-loop : tie.MeasureT-loop
 loop-holds : tie.Need-loop-holds Inv-loop μ-loop
 loop-holds c = (refl, storing-start _ _ _ _ (search needs) (search needs))
 
-there : (c : tie.In-loop Inv-loop μ-loop) → Whole (drop (c .before .loop .at) (c .before .before .before .before .before .args .sent .now))
+there : (c : tie.In-loop Inv-loop μ-loop) → SoundFirst (drop (c .before .loop .at) (c .before .before .before .before .before .args .sent .now))
 there c =
     let l = c .before .loop in
-    storing-whole _ _ _ (l .legends) (l .found) (l .at) (search needs) (l .inv .1)
+    storing-first _ _ _ (l .legends) (l .found) (l .at) (search needs) (l .inv .1)
 
 end : (c : tie.After-segment-length Inv-loop μ-loop)
     → c .before .before .loop .at + c .segment-length .result ≤ length (c .before .before .before .before .before .before .args .sent .now)
@@ -64,12 +65,13 @@ returns c =
     let l = c .before .before .before .before .before .loop in
     let n = length (c .before .before .before .before .before .before .before .before .before .args .sent .now) in
     let q = drop n (l .legends) in
-    let k : length q ≡ 8192 - n = rw length-drop (search needs) in
+    let k = legendSize - n in
+    let size : length q ≡ k = rw length-drop (search needs) in
     let f = c .before .before .fill in
-    let y : f .last .0 ≡ zeros (8192 - n) = f .ensures ∙ ap zeros (length-take-le (8192 - n) q (omega (arith, k))) in
-    let none = drop-of-length-le q {i = 8192 - n} (omega (arith, k)) in
+    let y : f .last .0 ≡ zeros k = f .ensures ∙ ap zeros (length-take-le k q (omega (arith, size))) in
+    let none = drop-of-length-le q {i = k} (omega (arith, size)) in
     let z = storing-end _ _ _ (l .legends) (l .found) (l .at) (search needs) (search needs) (l .inv .1) in
-    ((λ i. take n (l .legends) ++ (y i ++ none i)) ∙ ap (λ (r : List ℕ). take n (l .legends) ++ r) (append-nil (zeros (8192 - n))) ∙ z .0, z .1)
+    ((λ i. take n (l .legends) ++ (y i ++ none i)) ∙ ap (λ (r : List ℕ). take n (l .legends) ++ r) (append-nil (zeros k)) ∙ z .0, z .1)
 
 pub store-legends-spec : {M : Type 1} → statement M
 store-legends-spec =

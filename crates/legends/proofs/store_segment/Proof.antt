@@ -1,4 +1,4 @@
--- Six bytes copied, the rest translated: both parts together are the whole segment.
+-- The head is copied and the rest translated: both parts together are the segment.
 use Prim.Native.Nat.{_-_}
 use mathlib.Core.Path.{_≡_, ap, _∙_}
 use mathlib.Core.List.{append-nil}
@@ -6,6 +6,7 @@ use lib.ListN.{length, drop, length-drop, drop-of-length-le}
 use lib.Seq.{take-at, drop-at, length-take-le}
 use Rattle.seq.proofs.Laws.{take-rest}
 use Rattle.line.specs.Line.{anyUnprintable}
+use Rattle.legends.specs.Legends.{headSize}
 use borrow.Author.Needs.{needs}
 use Rattle.legends.proofs.store_segment.Statement.{statement}
 use Rattle.legends.proofs.store_segment.Tie as tie
@@ -16,11 +17,11 @@ returns c =
     let k = c .before .before .before .before .before .before .before .copy-all in
     let u = c .before .before .translate in
     let x = k .last .0 in
-    let q = drop 6 (a .to .now) in
-    let text = take-rest 6 (a .from .now) in
-    let six : length x ≡ 6 = ap length (k .ensures) ∙ length-take-le 6 (a .from .now) (search needs) in
-    let none = drop-of-length-le q {i = length (a .from .now) - 6} (rw length-drop (search needs)) in (
-      rw (take-at x q 6 six, drop-at x q 6 six, none, append-nil (u .last .0), k .ensures, u .ensures .0, text),
+    let q = drop headSize (a .to .now) in
+    let text = take-rest headSize (a .from .now) in
+    let head : length x ≡ headSize = ap length (k .ensures) ∙ length-take-le headSize (a .from .now) (search needs) in
+    let none = drop-of-length-le q {i = length (a .from .now) - headSize} (rw length-drop (search needs)) in (
+      rw (take-at x q headSize head, drop-at x q headSize head, none, append-nil (u .last .0), k .ensures, u .ensures .0, text),
       u .ensures .1 ∙ ap (anyUnprintable (a .pitches) (a .table .now)) text,
     )
 

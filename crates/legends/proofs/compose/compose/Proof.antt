@@ -24,6 +24,6 @@ compose-spec =
     (λ c. search needs)
     (λ c. search needs)
     (λ c. search needs)
-    (λ c κs. (search needs, (search needs, (search needs, search needs))))
+    (λ c κs. (search needs, (search needs, search needs)))
     (λ c. search needs)
     returns)

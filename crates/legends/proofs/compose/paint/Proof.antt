@@ -1,9 +1,9 @@
--- A segment of another copy leaves the lines; of this copy, its rows as far as there are lines are laid.
+-- A segment of another copy leaves the lines; of this copy, its rows are painted as far as there are lines.
 use mathlib.Core.Path.{ap, _∙_}
 use native.Mathlib.Omega.{arith}
 use Prim.Native.Nat.{_+_}
 use lib.ListN.{length, getD, drop, length-drop}
-use Rattle.legends.proofs.SegmentLaws.{Whole}
+use Rattle.legends.proofs.SegmentLaws.{SoundFirst}
 use Rattle.legends.proofs.ComposeLaws.{Among, Placed, placed, length-text, other-segment, this-segment}
 use borrow.Author.Needs.{needs}
 use Rattle.legends.proofs.compose.paint.Statement.{statement}
@@ -12,7 +12,7 @@ use Rattle.legends.proofs.compose.paint.Tie as tie
 there : (c : tie.Start) → Placed (c .args .legends .now) (c .args .at)
 there c =
     let s = drop (c .args .at) (c .args .legends .now) in
-    let w : Whole s = record { head = search needs; size = rw (length-drop (c .args .at) (c .args .legends .now)) (search needs) } in
+    let w : SoundFirst s = record { head = search needs; size = rw (length-drop (c .args .at) (c .args .legends .now)) (search needs) } in
     placed (c .args .legends .now) (c .args .at) w
 
 this : (c : tie.Else2)
@@ -43,8 +43,8 @@ text-requires c κs =
     let start = c .before .before .before .before .before .before .before .before .before .before .before .before .before .before .before .before in
     there start .fits
 
-lay-requires : tie.Need-lay-requires
-lay-requires c κs =
+paint-rows-requires : tie.Need-paint-rows-requires
+paint-rows-requires c κs =
     let w3 = c .before .before .before .before .before .before .before in
     let start = w3 .before .before .before .before .before .before .before .before .before .before in
     let n = ap length (c .text .ensures) ∙ length-text (start .args .legends .now) (start .args .at) (there start) in
@@ -60,7 +60,7 @@ returns-3 c =
     let start = covered .before .before .before .before .before .before .before .before in
     let a = start .args in
     let end = w5 .before .before .least .ensures in
-    rw (c .before .before .lay .ensures, t .text .ensures, end, w5 .wide5 .ensures .0, w4 .wide4 .ensures .0, w3 .wide3 .ensures .0)
+    rw (c .before .before .paint-rows .ensures, t .text .ensures, end, w5 .wide5 .ensures .0, w4 .wide4 .ensures .0, w3 .wide3 .ensures .0)
     (this-segment (a .legends .now) (a .at) (a .number) (a .out .now) (a .lines) (there start) (this covered) (start .pre .1 .1))
 
 pub paint-spec : {M : Type 1} → statement M
@@ -89,6 +89,6 @@ paint-spec =
     (λ c κs. search needs)
     sub-place
     text-requires
-    lay-requires
+    paint-rows-requires
     (λ c. search needs)
     returns-3)

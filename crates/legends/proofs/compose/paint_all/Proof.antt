@@ -1,4 +1,4 @@
--- Each turn paints one segment; those from `at` on are left. Legends that a printer can have are whole segments.
+-- Each turn paints one segment; those from `at` on are left. Legends that a printer can have are sound segments.
 use mathlib.Core.Path.{_≡_, refl, _∙_}
 use mathlib.Core.List.{List, map}
 use Prim.Native.Nat.{ℕ, _≤_, _+_, _-_}
@@ -6,7 +6,7 @@ use native.Mathlib.Omega.{arith}
 use lib.ListN.{length, drop, List·getD-eq-default}
 use borrow.Author.Needs.{needs}
 use Rattle.legends.specs.Legends.{segmentOf, segmentLength, storedSegments, copyFrom}
-use Rattle.legends.proofs.SegmentLaws.{Whole, end-at}
+use Rattle.legends.proofs.SegmentLaws.{SoundFirst, end-at}
 use Rattle.legends.proofs.ComposeLaws.{Left, left-start, left-here, left-step, left-end}
 use Rattle.legends.proofs.compose.paint_all.Statement.{statement}
 use Rattle.legends.proofs.compose.paint_all.Tie as tie
@@ -19,7 +19,7 @@ Inv-loop out₀ legends number lines at₀ out at =
 abbrev μ-loop : tie.MeasureT-loop
 μ-loop out₀ legends number lines at₀ out at = length legends - at
 
--- in a turn a whole segment stands at `at`, and ends within the legends
+-- in a turn a sound segment stands at `at`, and ends within the legends
 module _ (c : tie.Else1 Inv-loop μ-loop) where
   abbrev At : ℕ
   At = c .before .before .before .loop .at
@@ -27,7 +27,7 @@ module _ (c : tie.Else1 Inv-loop μ-loop) where
   abbrev G : List ℕ
   G = c .before .before .before .before .before .before .args .legends .now
 
-  here : Whole (drop At G)
+  here : SoundFirst (drop At G)
   here = let l = c .before .before .before .loop in left-here G _ At (l .out) _ (c .if1 .left) (l .inv .1 .1)
 
   fits : At + segmentLength (drop At G) ≤ length G

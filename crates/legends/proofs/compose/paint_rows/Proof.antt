@@ -1,4 +1,4 @@
--- Each turn lays the text into one row more.
+-- Each turn paints the text into one row more.
 use mathlib.Core.Path.{_≡_, refl, ap, _∙_}
 use mathlib.Core.List.{[], _∷_}
 use Prim.Native.Nat.{_≤_, _-_}
@@ -7,13 +7,13 @@ use native.Mathlib.Omega.{arith}
 use lib.ListN.{length}
 use borrow.Author.Needs.{needs}
 use Rattle.legends.specs.Legends.{copyFrom}
-use Rattle.legends.proofs.ComposeLaws.{laid, rows-none, rows-more, length-copyFrom}
-use Rattle.legends.proofs.compose.lay.Statement.{statement}
-use Rattle.legends.proofs.compose.lay.Tie as tie
+use Rattle.legends.proofs.ComposeLaws.{textRows, rows-none, rows-more, length-copyFrom}
+use Rattle.legends.proofs.compose.paint_rows.Statement.{statement}
+use Rattle.legends.proofs.compose.paint_rows.Tie as tie
 
 abbrev Inv-loop : tie.InvT-loop
 Inv-loop out₀ text row end place n i₀ out i =
-    (row ≤ i) × ((i - row ≤ end - row) × ((length out ≡ length out₀) × (out ≡ copyFrom (laid text row place i ∷ []) 0 0 out₀)))
+    (row ≤ i) × ((i - row ≤ end - row) × ((length out ≡ length out₀) × (out ≡ copyFrom (textRows text row place i ∷ []) 0 0 out₀)))
 
 abbrev μ-loop : tie.MeasureT-loop
 μ-loop out₀ text row end place n i₀ out i = end - i
@@ -41,8 +41,8 @@ returns c =
     let all : l .i - a .row ≡ a .end - a .row = omega arith in
     l .inv .1 .1 .1 ∙ rw all refl
 
-pub lay-spec : {M : Type 1} → statement M
-lay-spec =
+pub paint-rows-spec : {M : Type 1} → statement M
+paint-rows-spec =
     tie.close
     (tie.spec
     Inv-loop

@@ -1,4 +1,4 @@
--- The bytes that a printer keeps of an overlay sequence: a scan of all of them at once, and what it tells with the count and the copies.
+-- A stored overlay sequence: a scan of all its bytes at once, and what it tells with the count and the copies.
 use Prim.Native.Nat.{ℕ, zero, suc, _+_, _-_, _%_, _≤_, _<_}
 use mathlib.Core.Path.{_≡_, refl, sym, ap, _∙_}
 use mathlib.Core.Bool.{Bool, true, false, cond, not, _&&_, _||_, and-false, or-true, Bool·not-not}
@@ -16,13 +16,13 @@ use Rattle.seq.proofs.Loops.{any-not-all}
 use Rattle.numbers.specs.declared.Cause.the-variants.{SequenceCounts}
 use Rattle.numbers.specs.declared.Checked.the-variants.{Sound, Faulty}
 use Rattle.numbers.specs.Numbers.{isSound}
-use Rattle.copies.specs.Copies.{pairsOf, copiesOf, badPair, sequenceCheck, copiesInRange}
-use Rattle.copies.proofs.CopiesLaws.{wholeLength, whole-fits, whole-even}
+use Rattle.copies.specs.Copies.{pairSize, mostCopies, pairsOf, copiesOf, wholePairs, badPair, sequenceCheck, copiesInRange}
+use Rattle.copies.proofs.CopiesLaws.{pairs-fit, pairs-even}
 
 abbrev isSet : ℕ → Bool
 isSet b = not (eqb b 0)
 
--- The byte at place i of those kept, n of them the sequence: whether it is loose, and whether one from there on is.
+-- The byte at place i of those stored, the first n the sequence: whether it is out of order, and whether one from there on is.
 abbrev pub looseAt : ℕ → ℕ → ℕ → Bool
 looseAt n i b = cond (ltb i n) (cond (eqb (i % 2) 0) (eqb b 0) (ltb 1 b)) (not (eqb b 0))
 
@@ -39,7 +39,7 @@ unfolding loose
 loose-none n i = refl
 
 -- the sign of a difference tells a place before the count, and one difference a loose byte
-pub before-count : (n k d : ℕ) → n ≤ 16 → k < 16 → d < 256 → (d + n) % 256 ≡ k → ltb 127 d ≡ ltb k n
+pub before-count : (n k d : ℕ) → n ≤ pairSize → k < pairSize → d < 256 → (d + n) % 256 ≡ k → ltb 127 d ≡ ltb k n
 before-count n k d few small l e = go (ltb k n) refl
   where
     go : (t : Bool) → ltb k n ≡ t → ltb 127 d ≡ t
@@ -107,27 +107,27 @@ copies-front (suc (suc n)) [] h e = refl
 copies-front (suc (suc n)) (c ∷ []) h e = refl
 copies-front (suc (suc n)) (c ∷ m ∷ l) h e = ap (λ (k : ℕ). c + k) (copies-front n l (omega arith) e)
 
--- What a printer keeps, where the count is no number of whole pairs and where it is.
-module _ (l : List ℕ) (n r : ℕ) (h : length l ≡ 16) where
-  abbrev kept : Bool
-  kept = copiesInRange (record { pairs = l; count = n; reference = r }) && isSound (sequenceCheck (take n l))
+-- A stored sequence and reference, where the count is no number of whole pairs and where it is.
+module _ (l : List ℕ) (n r : ℕ) (h : length l ≡ pairSize) where
+  abbrev ok : Bool
+  ok = copiesInRange (record { pairs = l; count = n; reference = r }) && isSound (sequenceCheck (take n l))
 
-  pub kept-odd : wholeLength n ≡ false → kept ≡ false
+  pub ok-without-pairs : wholePairs n ≡ false → ok ≡ false
   unfolding copiesInRange every sequenceCheck firstOr when isSound
-  kept-odd w = go (leb n 16) refl
+  ok-without-pairs w = go (leb n pairSize) refl
     where
-      go : (t : Bool) → leb n 16 ≡ t → kept ≡ false
-      go true e = simp (length-take-le n l (omega (arith, leb-true n 16 e)), w, and-false)
+      go : (t : Bool) → leb n pairSize ≡ t → ok ≡ false
+      go true e = simp (length-take-le n l (omega (arith, leb-true n pairSize e)), w, and-false)
       go false e = rw e refl
 
-  pub kept-whole : wholeLength n ≡ true → kept ≡ (leb 1 r && (not (any badPair (pairsOf (take n l)) || not (zeroFrom n l)) && leb (copiesOf l) 255))
+  pub ok-with-pairs : wholePairs n ≡ true → ok ≡ (leb 1 r && (not (any badPair (pairsOf (take n l)) || not (zeroFrom n l)) && leb (copiesOf l) mostCopies))
   unfolding copiesInRange every sequenceCheck firstOr when isSound
-  kept-whole w =
-      rw (le-leb n 16 (whole-fits n w), length-take-le n l (omega (arith, whole-fits n w)), w) (go (zeroFrom n l) refl)
+  ok-with-pairs w =
+      rw (le-leb n pairSize (pairs-fit n w), length-take-le n l (omega (arith, pairs-fit n w)), w) (go (zeroFrom n l) refl)
     where
-      few : (c : ℕ) (t : Bool) → ltb 255 c ≡ t → leb c 255 ≡ not t
-      few c true e = lt-leb c 255 (ltb-true 255 c e)
-      few c false e = le-leb c 255 (ltb-false 255 c e)
+      few : (c : ℕ) (t : Bool) → ltb mostCopies c ≡ t → leb c mostCopies ≡ not t
+      few c true e = lt-leb c mostCopies (ltb-true mostCopies c e)
+      few c false e = le-leb c mostCopies (ltb-false mostCopies c e)
 
       judged : (t b o : Bool)
           → ((t && true) && isSound (firstOr Sound (when (b || o) (Faulty SequenceCounts) ∷ []))) ≡ (t && (not (b || false) && not o))
@@ -140,11 +140,11 @@ module _ (l : List ℕ) (n r : ℕ) (h : length l ≡ 16) where
       bad = any badPair (pairsOf (take n l))
 
       over : Bool
-      over = ltb 255 (copiesOf (take n l))
+      over = ltb mostCopies (copiesOf (take n l))
 
       go : (z : Bool) → zeroFrom n l ≡ z
           → ((z && (leb 1 r && true)) && isSound (firstOr Sound (when (bad || over) (Faulty SequenceCounts) ∷ [])))
-          ≡ (leb 1 r && (not (bad || not z) && leb (copiesOf l) 255))
+          ≡ (leb 1 r && (not (bad || not z) && leb (copiesOf l) mostCopies))
       go false e = simp (or-true, and-false)
       go true e =
-          rw (copies-front n l (whole-even n w) (set-after n l ∙ ap not e), few (copiesOf (take n l)) over refl) (judged (leb 1 r) bad over)
+          rw (copies-front n l (pairs-even n w) (set-after n l ∙ ap not e), few (copiesOf (take n l)) over refl) (judged (leb 1 r) bad over)
