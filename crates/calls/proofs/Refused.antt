@@ -96,7 +96,7 @@ unfolding startRefusal
 start-only a m x f = first-only f
 
 -- Stores of a wrong size, or contents no printer has: 9 from every call, and nothing changes.
-bad-store : (k : Core) (c : Call) → coreOk k ≡ false → refusalOf k c ≡ BadStore
+pub bad-store : (k : Core) (c : Call) → coreOk k ≡ false → refusalOf k c ≡ BadStore
 unfolding refusalOf firstOr when
 bad-store k (command i) e = rw e
 bad-store k (compose n out) e = rw e
