@@ -30,14 +30,11 @@ use Rattle.calls.specs.Lists.{worldAfter}
 use Rattle.calls.specs.Premises.{Good, Allowed}
 use Rattle.calls.proofs.Accepted.{allowed}
 use Rattle.calls.proofs.Refused.{bad-store, by-outcome}
-use Rattle.calls.proofs.Answers.{was-free}
+use Rattle.calls.proofs.Answers.{Free, was-free}
 use Rattle.calls.proofs.Good.{good}
 use Rattle.calls.proofs.GoodAfter.{good-write, good-empty, move-went}
 
--- No page waits. A reset finds nothing on the page: it is not started, or was emptied just before.
-abbrev pub Free : Core → Type 0
-Free k = k .state .sheet .waiting ≡ false
-
+-- A reset finds nothing on the page: it is not started, or was emptied just before.
 abbrev pub Unused : Core → Type 0
 Unused k = (started (k .state .sheet) ≡ false) ⊎ (k .stores .page ≡ noCells)
 

@@ -3,7 +3,6 @@ use Prim.Native.Nat.{ℕ}
 use mathlib.Core.Path.{_≡_, refl, sym, ap, _∙_}
 use mathlib.Core.Bool.{Bool, true, false}
 use mathlib.Core.List.{List, [], _∷_}
-use lib.ListN.{length}
 use Rattle.numbers.specs.declared.Sense.{Sense}
 use Rattle.numbers.specs.Numbers.{isAccepted}
 use Rattle.calls.specs.declared.Fixed.{Fixed}

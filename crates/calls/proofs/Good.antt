@@ -8,19 +8,17 @@ use lib.Dec.{lit≤}
 use borrow.Author.Tests.{eqb-true, eq-eqb, leb-true, le-leb}
 use Rattle.seq.specs.Words.{every, when, firstOr, listed, padded}
 use Rattle.seq.proofs.Laws.{every-at, padded-take, padded-zero}
-use Rattle.numbers.specs.Sizes.{pageLines, pageSize, tableSize, legendSize}
+use Rattle.numbers.specs.Sizes.{pageLines, pageSize, legendSize}
 use Rattle.numbers.specs.declared.Checked.the-variants.{Sound}
 use Rattle.numbers.specs.Numbers.{isSound}
 use Rattle.numbers.proofs.Laws.{sound-is}
 use Rattle.form.specs.declared.Layout.{Layout}
-use Rattle.form.specs.declared.Forms.{Forms}
-use Rattle.form.specs.Form.{formLengths, formOk, fcbCheck, layoutOf, printable, startFcb, fcbSize, fcbNow, formsOf, formsInRange}
+use Rattle.form.specs.Form.{formLengths, fcbCheck, layoutOf, printable, startFcb, fcbSize, fcbNow, formsOf, formsInRange}
 use Rattle.form.proofs.FormLaws.{form-listed, fcb-fits, few-lines, some-line, start-sound}
 use Rattle.line.specs.Line.{startSlots, slotsInRange}
 use Rattle.line.proofs.LineLaws.{length-startTables}
-use Rattle.copies.specs.declared.Copies.{Copies}
-use Rattle.copies.specs.Copies.{pairsOf, copiesOf, sequenceCheck, sequenceNow, startCopies, copiesInRange}
-use Rattle.legends.specs.Legends.{legendsOk, noLegends}
+use Rattle.copies.specs.Copies.{pairsOf, copiesOf, sequenceCheck, startCopies, copiesInRange}
+use Rattle.legends.specs.Legends.{noLegends}
 use Rattle.legends.proofs.LegendLaws.{none-ok}
 use Rattle.calls.specs.declared.Fixed.{Fixed}
 use Rattle.calls.specs.declared.Sheet.{Sheet}

@@ -3,7 +3,7 @@
 use Prim.Native.Nat.{ℕ, _≤_}
 use mathlib.Core.Path.{_≡_, refl, sym, _∙_}
 use mathlib.Core.Bool.{Bool, true, false, not, _&&_, _||_, true≢false, and-true, or-true}
-use mathlib.Core.List.{List, []}
+use mathlib.Core.List.{List}
 use mathlib.Core.Logic.{inl, inr}
 use native.Mathlib.Omega.{arith}
 use lib.ListN.{length, length-set}
@@ -23,13 +23,14 @@ use Rattle.calls.specs.declared.Fixed.{Fixed}
 use Rattle.calls.specs.declared.Sheet.{Sheet}
 use Rattle.calls.specs.declared.Load.{Load}
 use Rattle.calls.specs.declared.Load.the-variants.{Fcb, TranslateTable, CopyModification, OverlaySequence, CopyNumber}
-use Rattle.calls.specs.Core.{Core, World, P, started}
+use Rattle.calls.specs.Core.{Core, World, started}
 use Rattle.calls.specs.Reset.{blankSheet, noCells, resetState, resetStores, reset}
 use Rattle.calls.specs.Effects.{movedSheet, marked, written, loadCheck, atLine1, slotLoaded, slotSelected, loaded}
 use Rattle.calls.specs.Calls.{Call, emptied, effect}
 use Rattle.calls.specs.Lists.{worldAfter}
 use Rattle.calls.specs.Premises.{FixedGood, Good, Sized}
-use Rattle.calls.proofs.Changes.{Free, Unused, Changes, preserved, preserved-list}
+use Rattle.calls.proofs.Answers.{Free}
+use Rattle.calls.proofs.Changes.{Unused, Changes, preserved, preserved-list}
 use Rattle.calls.proofs.GoodAfter.{good-write, good-move, good-complete, good-reset, good-block, good-select, good-load, good-empty}
 
 -- Contents that a printer can have.

@@ -1,35 +1,28 @@
 -- After an accepted Start no call ever gets 9.
 use mathlib.Core.Path.{_≡_, refl, ap}
 use mathlib.Core.Bool.{true, false, not}
-use mathlib.Core.List.{List, []}
-use mathlib.Core.Logic.{inl, inr}
+use mathlib.Core.List.{List}
+use mathlib.Core.Logic.{inl}
 use lib.Dec.{eqb}
 use Rattle.seq.specs.Words.{every}
-use Rattle.numbers.specs.declared.Refusal.the-variants.{NoPage, BadIndex, TooShort, BadStore}
-use Rattle.numbers.specs.Numbers.{rowOf, numberOf, isAccepted}
-use Rattle.numbers.proofs.Laws.{number-not, number-none}
+use Rattle.numbers.specs.Numbers.{numberOf, isAccepted}
 use Rattle.calls.specs.Core.{Stores, Core}
 use Rattle.calls.specs.Contents.{coreOk}
 use Rattle.calls.specs.Reset.{noCells, fresh}
-use Rattle.calls.specs.Calls.{Call, command, compose, release, refusalOf, step}
+use Rattle.calls.specs.Calls.{Call, refusalOf, step}
 use Rattle.calls.specs.Start.{Asked, fixedBy, startRefusal, startWorld, startOutcome}
 use Rattle.calls.specs.Lists.{worldAfter}
 use Rattle.calls.specs.Premises.{Good}
 use Rattle.calls.proofs.Accepted.{startable}
-use Rattle.calls.proofs.Answers.{names, command-number}
+use Rattle.calls.proofs.Refused.{not-given}
+use Rattle.calls.proofs.Answers.{names}
 use Rattle.calls.proofs.Good.{ok, no-cells, reset-good}
 use Rattle.calls.proofs.Invariants.{good-calls}
 
 -- On contents that a printer can have no call gets 9.
 pub no-9 : (k : Core) (c : Call) → coreOk k ≡ true → eqb (numberOf (refusalOf k c)) 9 ≡ false
-unfolding refusalOf rowOf every
-no-9 k (command i) e = command-number 9 k i (inl (ap not e)) refl
-no-9 k (compose n out) e =
-    number-not 9 _ BadStore _ (inl (ap not e))
-    (number-not 9 _ NoPage _ (inr refl)
-    (number-not 9 _ BadIndex _ (inr refl)
-    (number-not 9 _ TooShort [] (inr refl) (number-none 9 refl))))
-no-9 k release e = number-not 9 _ BadStore _ (inl (ap not e)) (number-not 9 _ NoPage [] (inr refl) (number-none 9 refl))
+unfolding every
+no-9 k c e = not-given 9 k c (inl (ap not e)) refl
 
 -- Start leaves such contents, whatever the stores held before it.
 pub started-world : (a : Asked) (m : Stores) → isAccepted (startRefusal a m) ≡ true → startOutcome a m .world ≡ startWorld a

@@ -1,7 +1,6 @@
 -- Demand 3, the ground: after a finished reset a printer is a function of what Start fixed and the switch, and each later one is what the deeds since
 -- then, done again on it, leave.
 use borrow.Author.Tests.{not-true}
-use Prim.Native.Nat.{ℕ}
 use mathlib.Core.Path.{_≡_, refl, sym, ap, _∙_}
 use mathlib.Core.Bool.{Bool, true, false, not, true≢false, false≢true}
 use mathlib.Core.List.{List, [], _∷_, _++_, map}
@@ -26,7 +25,7 @@ use Rattle.calls.proofs.Invariants.{Fixes, fixed-call, Blank, blank-cal
 
 -- What does not count leaves the core: refused calls, No-Op and Sense, Compose.
 quiet-core : {k : Core} {c : Command} {e : Effect} → Shape k c e → traitsOf c .quiet ≡ true → e .core ≡ k
-quiet-core (sets k′ x q e) h = absurd (true≢false (sym h ∙ q))
+quiet-core (sets k′ x q w e) h = absurd (true≢false (sym h ∙ q))
 quiet-core (quiet s f q m e) h = ap (λ (x : Effect). x .core) e
 
 -- an accepted command that does not count is quiet
