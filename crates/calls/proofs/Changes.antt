@@ -31,8 +31,7 @@ use Rattle.calls.specs.Premises.{Good, Allowed}
 use Rattle.calls.proofs.Accepted.{allowed}
 use Rattle.calls.proofs.Refused.{bad-store, by-outcome}
 use Rattle.calls.proofs.Answers.{Free, was-free}
-use Rattle.calls.proofs.Good.{good}
-use Rattle.calls.proofs.GoodAfter.{good-write, good-empty, move-went}
+use Rattle.calls.proofs.Good.{good, good-write, good-empty, move-went}
 
 -- A reset finds nothing on the page: it is not started, or was emptied just before.
 abbrev pub Unused : Core → Type 0

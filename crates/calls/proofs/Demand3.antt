@@ -1,7 +1,7 @@
 -- The user's third demand. Lists of calls with the same deeds since the latest finished reset leave printers that answer and print alike.
 use Prim.Native.Nat.{ℕ}
-use mathlib.Core.Path.{_≡_, refl, sym, ap, _∙_}
-use mathlib.Core.Bool.{Bool, true, false}
+use mathlib.Core.Path.{_≡_, refl, ap, _∙_}
+use mathlib.Core.Bool.{true, false}
 use mathlib.Core.List.{List, [], _∷_}
 use Rattle.numbers.specs.declared.Sense.{Sense}
 use Rattle.numbers.specs.Numbers.{isAccepted}
@@ -11,10 +11,10 @@ use Rattle.calls.specs.Reset.{fresh}
 use Rattle.calls.specs.Effects.{Effect, refused}
 use Rattle.calls.specs.Calls.{Call, compose, doCompose, perform, effect, over, step}
 use Rattle.calls.specs.Start.{Asked, fixedBy, startRefusal, startWorld, startOutcome}
-use Rattle.calls.specs.Lists.{worldAfter, Deed, gives, sinceReset}
+use Rattle.calls.specs.Lists.{worldAfter, gives, sinceReset}
 use Rattle.calls.proofs.Refused.{by-outcome}
-use Rattle.calls.proofs.Never9.{started-world}
-use Rattle.calls.proofs.SinceReset.{redo, redone, tracked}
+use Rattle.calls.proofs.Accepted.{started-world}
+use Rattle.calls.proofs.SinceReset.{tracked}
 
 -- The sense has no part in what calls leave, nor in what Compose writes.
 compose-front : (k : Core) (n : ℕ) (out : List ℕ) (s t : Sense)
@@ -49,17 +49,9 @@ alike : (f : Fixed) (v w : World) (xs ys : List Call) → v .core ≡ fresh f fa
 alike f v w xs ys ev ew p q =
     let tv = tracked f false v xs ev in
     let tw = tracked f false w ys ew in
-    let e : worldAfter v xs .core ≡ worldAfter w ys .core =
-    tv .core
-    ∙ ap (λ (b : Bool). redo (fresh f b) (sinceReset v xs .deeds)) p
-    ∙ ap (λ (d : List Deed). redo (fresh f (sinceReset w ys .switch)) d) q
-    ∙ sym (tw .core) in
+    let e : worldAfter v xs .core ≡ worldAfter w ys .core = rw (tv .core, tw .core, p, q) in
     record {
-      gave =
-          tv .gave
-          ∙ ap (λ (b : Bool). redone (fresh f b) (sinceReset v xs .deeds)) p
-          ∙ ap (λ (d : List Deed). redone (fresh f (sinceReset w ys .switch)) d) q
-          ∙ sym (tw .gave);
+      gave = rw (tv .gave, tw .gave, p, q);
       core = e;
       later = λ zs. ap (λ (k : Core). gives k zs) e;
       composes = λ zs n out. compose-alike _ _ n out (after-alike _ _ zs e);

@@ -23,15 +23,19 @@ use Rattle.calls.specs.declared.Fixed.{Fixed}
 use Rattle.calls.specs.declared.Sheet.{Sheet}
 use Rattle.calls.specs.declared.Load.{Load}
 use Rattle.calls.specs.declared.Load.the-variants.{Fcb, TranslateTable, CopyModification, OverlaySequence, CopyNumber}
-use Rattle.calls.specs.Core.{Core, World, started}
+use Rattle.calls.specs.Core.{Core, World, started, Stores}
 use Rattle.calls.specs.Reset.{blankSheet, noCells, resetState, resetStores, reset}
 use Rattle.calls.specs.Effects.{movedSheet, marked, written, loadCheck, atLine1, slotLoaded, slotSelected, loaded}
-use Rattle.calls.specs.Calls.{Call, emptied, effect}
+use Rattle.calls.specs.Calls.{Call, emptied, effect, step}
 use Rattle.calls.specs.Lists.{worldAfter}
 use Rattle.calls.specs.Premises.{FixedGood, Good, Sized}
-use Rattle.calls.proofs.Answers.{Free}
+use Rattle.calls.proofs.Answers.{Free, names}
 use Rattle.calls.proofs.Changes.{Unused, Changes, preserved, preserved-list}
-use Rattle.calls.proofs.GoodAfter.{good-write, good-move, good-complete, good-reset, good-block, good-select, good-load, good-empty}
+use Rattle.calls.proofs.Good.{good-write, good-move, good-complete, good-reset, good-block, good-select, good-load, good-empty, ok, start-good}
+use Rattle.numbers.specs.Numbers.{numberOf, isAccepted}
+use Rattle.calls.specs.Start.{Asked, startRefusal, startWorld, startOutcome}
+use Rattle.calls.proofs.Accepted.{started-world}
+use Rattle.calls.proofs.Refused.{no-9}
 
 -- Contents that a printer can have.
 good-changes : Changes Good
@@ -52,6 +56,13 @@ good-call = preserved good-changes
 
 pub good-calls : (w : World) (cs : List Call) → Good (w .core) → Good (worldAfter w cs .core)
 good-calls = preserved-list good-changes
+
+-- After an accepted Start no call ever gets 9.
+pub never-9 : (a : Asked) (m : Stores) (cs : List Call) (c : Call) → isAccepted (startRefusal a m) ≡ true
+    → eqb (numberOf (step (worldAfter (startOutcome a m .world) cs) c .answer .refusal)) 9 ≡ false
+never-9 a m cs c e =
+    rw (names (worldAfter (startOutcome a m .world) cs) c, started-world a m e)
+    (no-9 _ c (ok _ (good-calls (startWorld a) cs (start-good a m e))))
 
 -- What Start fixed.
 abbrev pub Fixes : Fixed → Core → Type 0

@@ -58,7 +58,8 @@ one-page-only k (Controls c) =
 one-page-only k (Loads l) = lit≤ tt
 one-page-only k Unlisted = lit≤ tt
 
--- A number other than 0 to 8 is not given, unless it is 9 and the contents are bad: 10 is Start's alone, and 11 is never given.
+-- A number other than 0 to 8 is not given, unless it is 9 and the contents are bad. So contents that a printer can have get no 9, number 10 is Start's
+-- alone, and 11 is never given.
 pub not-given : (n : ℕ) (k : Core) (c : Call) → (not (coreOk k) ≡ false) ⊎ (eqb 9 n ≡ false)
     → every (map (λ m. not (eqb m n)) (from 0 9)) ≡ true → eqb (numberOf (refusalOf k c)) n ≡ false
 unfolding refusalOf rowOf
@@ -83,6 +84,10 @@ not-given n k release nine other =
 never-10 : (k : Core) (c : Call) → eqb (numberOf (refusalOf k c)) 10 ≡ false
 unfolding every
 never-10 k c = not-given 10 k c (inr refl) refl
+
+pub no-9 : (k : Core) (c : Call) → coreOk k ≡ true → eqb (numberOf (refusalOf k c)) 9 ≡ false
+unfolding every
+no-9 k c e = not-given 9 k c (inl (ap not e)) refl
 
 pub never-11 : (k : Core) (c : Call) → eqb (numberOf (refusalOf k c)) 11 ≡ false
 unfolding every

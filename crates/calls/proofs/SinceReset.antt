@@ -170,18 +170,10 @@ track-note f k s c t = go (finishesReset k c) refl (counts k c) refl
           blank = blank-call k c (t .blank);
         })
     go false ep true eq =
-        let from = fresh f (s .switch) in
         rw (ep, eq)
         (record {
-          core =
-              ap (λ (x : Effect). x .core) (sym (again k c eq))
-              ∙ ap (λ (x : Core). effect x (callOf (deedOf c)) .core) (t .core)
-              ∙ sym (redo-one from (s .deeds) (deedOf c));
-          gave =
-              ap (λ (l : List Given). l ++ (given k c ∷ [])) (t .gave)
-              ∙ ap (λ (a : Given). redone from (s .deeds) ++ (a ∷ []))
-              (sym (again-given k c eq) ∙ ap (λ (x : Core). given x (callOf (deedOf c))) (t .core))
-              ∙ sym (redone-one from (s .deeds) (deedOf c));
+          core = rw (redo-one, ← t .core, again k c eq);
+          gave = rw (redone-one, ← t .gave, ← t .core, again-given k c eq);
           fixed = fixed-call f k c (t .fixed);
           blank = blank-call k c (t .blank);
         })
