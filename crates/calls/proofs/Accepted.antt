@@ -23,7 +23,7 @@ use Rattle.calls.specs.Core.{Stores, Core, P}
 use Rattle.calls.specs.Commands.{Issued, decode}
 use Rattle.calls.specs.Contents.{coreOk}
 use Rattle.calls.specs.Calls.{command, badRecord, checkOf, commandTests, composeTests, refusalOf}
-use Rattle.calls.specs.Start.{Asked, startRefusal}
+use Rattle.calls.specs.Start.{Asked, startRefusal, startWorld, startOutcome}
 use Rattle.calls.specs.Premises.{Allowed, Composable, Startable}
 
 pub allowed-by : (k : Core) (c : Command) (i : Issued) → firstOr Accepted (commandTests k c i) ≡ Accepted → Allowed k c i
@@ -89,3 +89,8 @@ startable a m e =
     let h₁ = passed _ _ (not-accepted refl) (accepted-is _ e) in
     let h₂ = passed _ _ (not-accepted refl) (h₁ .1) in
     record { sizes = not-false _ (h₁ .0); form = not-false _ (h₂ .0) }
+
+-- Such a Start leaves the same printer, whatever the stores held before it.
+pub started-world : (a : Asked) (m : Stores) → isAccepted (startRefusal a m) ≡ true → startOutcome a m .world ≡ startWorld a
+unfolding startOutcome
+started-world a m e = rw e

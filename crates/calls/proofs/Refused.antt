@@ -1,21 +1,28 @@
 -- Document 01, "Numbers": a number is given exactly when the table says, and a refused call changes nothing but the sense shown.
-use Prim.Native.Nat.{ℕ}
+use Prim.Native.Nat.{ℕ, _≤_}
 use mathlib.Core.Path.{_≡_, refl, ap, _∙_}
-use mathlib.Core.Bool.{Bool, true, false, and-false}
-use mathlib.Core.List.{List, [], _∷_}
-use mathlib.Core.Logic.{inr}
-use lib.Dec.{eqb}
-use Rattle.seq.specs.Words.{firstOr, when, every}
-use Rattle.seq.proofs.Laws.{First, first-is, first-only, cond-has}
+use mathlib.Core.Bool.{Bool, true, false, not, _&&_, and-false}
+use mathlib.Core.List.{List, [], _∷_, map}
+use mathlib.Core.Logic.{_⊎_, inl, inr}
+use lib.Dec.{eqb, lit≤}
+use borrow.Author.Tests.{le-ltb, not-true}
+use Rattle.seq.specs.Words.{firstOr, when, every, from}
+use Rattle.seq.proofs.Laws.{First, first-is, first-only, cond-has, every-at}
 use Rattle.numbers.specs.declared.Refusal.{Refusal}
 use Rattle.numbers.specs.declared.Refusal.the-variants.{Accepted, NotListed, BadRecord, PageWaiting, PageStarted, NoPage, BadIndex, TooShort, BadStore, TwoPages}
 use Rattle.numbers.specs.Numbers.{senseAfter, rowOf, numberOf, isAccepted, only}
 use Rattle.numbers.proofs.Laws.{tells, sense-kept, number-not, number-check, number-none}
 use Rattle.form.specs.Form.{formLengths, formOk}
-use Rattle.calls.specs.Core.{Stores, Core, World, sizesOk}
+use Rattle.movement.specs.declared.Moved.{Moved}
+use Rattle.movement.specs.Movement.{still, toTop}
+use Rattle.movement.proofs.MovementLaws.{one-page}
+use Rattle.calls.specs.declared.Command.{Command}
+use Rattle.calls.specs.declared.Command.the-variants.{Write, Move, Controls, Loads, Unlisted}
+use Rattle.calls.specs.Core.{Stores, Core, World, sizesOk, started}
+use Rattle.calls.specs.Commands.{decode, controlTraits}
 use Rattle.calls.specs.Contents.{rangesOk, coreOk}
-use Rattle.calls.specs.Effects.{Effect, refused}
-use Rattle.calls.specs.Calls.{Call, command, compose, release, testsOf, refusalOf, doCompose, perform, sizeOf, effect, lent, Outcome, step}
+use Rattle.calls.specs.Effects.{Effect, refused, moveOf}
+use Rattle.calls.specs.Calls.{Call, command, compose, release, movement, testsOf, refusalOf, doCompose, perform, sizeOf, effect, lent, Outcome, step}
 use Rattle.calls.specs.Start.{Asked, startTests, startRefusal, noState, noPrinter, startOutcome}
 
 -- What a call does is what its refusal says, or what the accepted call does.
@@ -41,26 +48,55 @@ pub refused-step : (w : World) (c : Call) → isAccepted (refusalOf (w .core) c)
 unfolding step refused
 refused-step w c e = rw (refused-effect (w .core) c e)
 
--- Number 10 is Start's alone.
-no-10 : (k : Core) (c : Call) → eqb (numberOf (refusalOf k c)) 10 ≡ false
+-- Every command completes at most one page, on every form.
+pub one-page-only : (k : Core) (c : Command) → movement k c .pages ≤ 1
+unfolding movement moveOf still toTop
+one-page-only k (Write m) = one-page _ _ m
+one-page-only k (Move m) = one-page _ _ m
+one-page-only k (Controls c) =
+    cond-has (λ (v : Moved). v .pages ≤ 1) (controlTraits c .completes && started (k .state .sheet)) (λ t. lit≤ tt) (λ t. lit≤ tt)
+one-page-only k (Loads l) = lit≤ tt
+one-page-only k Unlisted = lit≤ tt
+
+-- A number other than 0 to 8 is not given, unless it is 9 and the contents are bad. So contents that a printer can have get no 9, number 10 is Start's
+-- alone, and 11 is never given.
+pub not-given : (n : ℕ) (k : Core) (c : Call) → (not (coreOk k) ≡ false) ⊎ (eqb 9 n ≡ false)
+    → every (map (λ m. not (eqb m n)) (from 0 9)) ≡ true → eqb (numberOf (refusalOf k c)) n ≡ false
 unfolding refusalOf rowOf
-no-10 k (command i) =
-    number-not 10 _ BadStore _ (inr refl)
-    (number-not 10 _ NotListed _ (inr refl)
-    (number-not 10 _ PageWaiting _ (inr refl)
-    (number-not 10 _ BadRecord _ (inr refl)
-    (number-not 10 _ PageStarted _ (inr refl)
-    (number-check 10 _ _ refl (number-not 10 _ TooShort _ (inr refl) (number-not 10 _ TwoPages [] (inr refl) (number-none 10 refl))))))))
-no-10 k (compose n out) =
-    number-not 10 _ BadStore _ (inr refl)
-    (number-not 10 _ NoPage _ (inr refl)
-    (number-not 10 _ BadIndex _ (inr refl) (number-not 10 _ TooShort [] (inr refl) (number-none 10 refl))))
-no-10 k release = number-not 10 _ BadStore _ (inr refl) (number-not 10 _ NoPage [] (inr refl) (number-none 10 refl))
+not-given n k (command i) nine other =
+    number-not n _ BadStore _ nine
+    (number-not n _ NotListed _ (inr (not-true _ (every-at 1 _ other)))
+    (number-not n _ PageWaiting _ (inr (not-true _ (every-at 4 _ other)))
+    (number-not n _ BadRecord _ (inr (not-true _ (every-at 2 _ other)))
+    (number-not n _ PageStarted _ (inr (not-true _ (every-at 5 _ other)))
+    (number-check n _ _ (not-true _ (every-at 3 _ other))
+    (number-not n _ TooShort _ (inr (not-true _ (every-at 8 _ other)))
+    (number-not n _ TwoPages [] (inl (le-ltb 1 _ (one-page-only k (decode (i .byte))))) (number-none n (not-true _ (every-at 0 _ other))))))))))
+not-given n k (compose m out) nine other =
+    number-not n _ BadStore _ nine
+    (number-not n _ NoPage _ (inr (not-true _ (every-at 6 _ other)))
+    (number-not n _ BadIndex _ (inr (not-true _ (every-at 7 _ other)))
+    (number-not n _ TooShort [] (inr (not-true _ (every-at 8 _ other))) (number-none n (not-true _ (every-at 0 _ other))))))
+not-given n k release nine other =
+    number-not n _ BadStore _ nine
+    (number-not n _ NoPage [] (inr (not-true _ (every-at 6 _ other))) (number-none n (not-true _ (every-at 0 _ other))))
+
+never-10 : (k : Core) (c : Call) → eqb (numberOf (refusalOf k c)) 10 ≡ false
+unfolding every
+never-10 k c = not-given 10 k c (inr refl) refl
+
+pub no-9 : (k : Core) (c : Call) → coreOk k ≡ true → eqb (numberOf (refusalOf k c)) 9 ≡ false
+unfolding every
+no-9 k c e = not-given 9 k c (inl (ap not e)) refl
+
+pub never-11 : (k : Core) (c : Call) → eqb (numberOf (refusalOf k c)) 11 ≡ false
+unfolding every
+never-11 k c = not-given 11 k c (inr refl) refl
 
 -- Refusals other than 1, 3 and 5 leave the sense too.
 pub refused-keeps : (w : World) (c : Call) → isAccepted (refusalOf (w .core) c) ≡ false → tells (refusalOf (w .core) c) ≡ false → step w c .world ≡ w
 refused-keeps w c e h =
-    ap (λ (o : Outcome). o .world) (refused-step w c e) ∙ rw (sense-kept (sizeOf c) (refusalOf (w .core) c) h (no-10 (w .core) c))
+    ap (λ (o : Outcome). o .world) (refused-step w c e) ∙ rw (sense-kept (sizeOf c) (refusalOf (w .core) c) h (never-10 (w .core) c))
 
 -- Compose leaves all as it was: none of its refusals touches the sense.
 compose-tells : (a b c d : Bool)
@@ -76,7 +112,7 @@ pub compose-keeps : (w : World) (n : ℕ) (out : List ℕ) → step w (compose n
 unfolding step refused perform doCompose refusalOf
 compose-keeps w n out =
     by-outcome (λ (e : Effect). record { core = e .core; sense = senseAfter (w .sense) (e .sense) } ≡ w) (w .core) (compose n out) (λ a. refl)
-    (λ a. rw (sense-kept 0 (refusalOf (w .core) (compose n out)) (compose-tells _ _ _ _) (no-10 (w .core) (compose n out))))
+    (λ a. rw (sense-kept 0 (refusalOf (w .core) (compose n out)) (compose-tells _ _ _ _) (never-10 (w .core) (compose n out))))
 
 -- The number given is that of the first test of the order which holds, and only of that: Accepted exactly where none does.
 pub first-given : (k : Core) (c : Call) → First Accepted (testsOf k c) (refusalOf k c)
@@ -96,7 +132,7 @@ unfolding startRefusal
 start-only a m x f = first-only f
 
 -- Stores of a wrong size, or contents no printer has: 9 from every call, and nothing changes.
-bad-store : (k : Core) (c : Call) → coreOk k ≡ false → refusalOf k c ≡ BadStore
+pub bad-store : (k : Core) (c : Call) → coreOk k ≡ false → refusalOf k c ≡ BadStore
 unfolding refusalOf firstOr when
 bad-store k (command i) e = rw e
 bad-store k (compose n out) e = rw e

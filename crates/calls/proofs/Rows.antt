@@ -4,29 +4,25 @@ use mathlib.Core.Path.{_≡_, refl}
 use mathlib.Core.Bool.{Bool, true, false}
 use mathlib.Core.List.{List, [], _∷_, _++_, map, flatten, zipWith}
 use lib.ListN.{replicate}
-use Rattle.seq.specs.Words.{zeros}
+use Rattle.seq.specs.Words.{zeros, when, firstOr, every, padded}
 use Rattle.numbers.specs.declared.Sense.{Sense}
 use Rattle.numbers.specs.declared.Answer.{Answer}
 use Rattle.numbers.specs.declared.Cause.the-variants.{FcbSpacing, FcbSum, SequenceCounts, SegmentFields}
 use Rattle.numbers.specs.declared.Refusal.{Refusal}
 use Rattle.numbers.specs.declared.Refusal.the-variants.{Accepted, LoadCheck, PageWaiting, PageStarted}
-use Rattle.numbers.specs.Numbers.{sense3, noSense}
+use Rattle.numbers.specs.Numbers.{sense3, noSense, causeOf, rowOf, isAccepted, checked, isSound}
 use Rattle.calls.specs.declared.Sheet.{Sheet}
-use Rattle.calls.specs.Core.{Stores, World}
-use Rattle.calls.specs.Calls.{Call, command, compose, release, Outcome}
-use Rattle.seq.specs.Words.{when, firstOr, every, padded}
-use Rattle.numbers.specs.Numbers.{causeOf, rowOf, isAccepted, checked, isSound}
+use Rattle.calls.specs.Core.{Stores, World, sizesOk, linesNow, started}
+use Rattle.calls.specs.Calls.{Call, command, compose, release, Outcome, checkOf, movement, refusalOf, copyAt, doCompose, emptied, released, doRelease, perform, effect, step}
 use Rattle.form.specs.Form.{formLengths, pitchesListed, pitchesOk, formOk, unitsOf, runsFrom, runs, unitsTotal, linesWhere, printable, edges, fcbCheck, layoutCheck, layoutOf, channelAt, startFcb, formsOf, formsInRange}
 use Rattle.movement.specs.Movement.{entered, round, upToFirst, spaced, skipped, moved, still, toTop}
 use Rattle.line.specs.Line.{slotAt, putSlot, isLoaded, serving, unprintable, standIn, cellOf, translated, anyUnprintable, lineCells, mergeRules, mergeCell, collides, mergeLine, anyCollides, lineAt, putLine, pageWritten, noCauses, lineCauses, orUnmatched, causeByte, startTable, startTables, startSlots, slotsInRange}
 use Rattle.copies.specs.Copies.{tableCheck, pairsOf, copiesOf, sequenceCheck, markIn, numberCheck, withSequence, withReference, startCopies, copyCount, copyNumber, copyMark, copiesInRange}
 use Rattle.legends.specs.Legends.{segmentOf, badHead, cut, segments, legendCheck, storedLegends, legendText, storedSegments, legendsOk, noLegends, covers, shown, copyFrom, composed}
-use Rattle.calls.specs.Core.{sizesOk, linesNow, started}
 use Rattle.calls.specs.Commands.{issued, codes, lookUp, decode, controlTraits, traitsOf}
 use Rattle.calls.specs.Contents.{lineOk, rangesOk, dueOk, markOk, coreOk}
 use Rattle.calls.specs.Reset.{blankSheet, noCells, resetState, resetStores, reset, fresh, byte3, senseBytes}
 use Rattle.calls.specs.Effects.{refused, done, movedSheet, moveOf, doMove, marked, written, writeCauses, doWrite, loadCheck, atLine1, slotLoaded, slotSelected, loaded, loadCauses, doLoad, completing, doControl, doCommand}
-use Rattle.calls.specs.Calls.{checkOf, movement, refusalOf, copyAt, doCompose, emptied, released, doRelease, perform, effect, step}
 use Rattle.calls.specs.Start.{asked, startRefusal, startWorld, noState, noPrinter, startOutcome}
 use Rattle.calls.specs.Lists.{Deed, commanded, wasReleased, worldAfter, counts, readOf, deedOf, finishesReset, copiesOfPage, given, sinceNow, note, sinceOver, sinceReset}
 

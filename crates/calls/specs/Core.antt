@@ -12,7 +12,6 @@ use Rattle.form.specs.declared.Forms.{Forms}
 use Rattle.form.specs.Form.{fcbNow, printable, layoutOf}
 use Rattle.line.specs.declared.Slots.{Slots}
 use Rattle.copies.specs.declared.Copies.{Copies}
-use Rattle.calls.specs.declared.Fixed.{Fixed}
 use Rattle.calls.specs.declared.Sheet.{Sheet}
 use Rattle.calls.specs.declared.State.{State}
 

@@ -9,13 +9,14 @@ use lib.Dec.{ltb}
 use Rattle.numbers.specs.Sizes.{lineBytes, pageSize, legendSize, tableSize, senseSize}
 use Rattle.numbers.specs.declared.Checked.the-variants.{Sound}
 use Rattle.form.specs.declared.Forms.{Forms}
-use Rattle.form.specs.Form.{formOk, fcbCheck, fcbNow, formsInRange}
+use Rattle.form.specs.Form.{formOk, fcbCheck, fcbSize, fcbNow, formsInRange}
 use Rattle.line.specs.Line.{slotsInRange}
 use Rattle.copies.specs.declared.Copies.{Copies}
-use Rattle.copies.specs.Copies.{sequenceCheck, sequenceNow, copyCount, copiesInRange}
+use Rattle.copies.specs.Copies.{sequenceCheck, pairSize, sequenceNow, copyCount, copiesInRange}
 use Rattle.legends.specs.Legends.{legendsOk}
 use Rattle.calls.specs.declared.Fixed.{Fixed}
 use Rattle.calls.specs.declared.Sheet.{Sheet}
+use Rattle.calls.specs.declared.State.{State}
 use Rattle.calls.specs.declared.Command.{Command}
 use Rattle.calls.specs.Core.{Stores, Core, sizesOk, P, started}
 use Rattle.calls.specs.Commands.{Issued, traitsOf, isUnlisted, isLoad}
@@ -54,6 +55,13 @@ pub record Good (k : Core) : Type 0 where
   pub copies : CopiesGood (k .state .copies)
   pub sheet : SheetGood (P (k .state)) (k .state .sheet)
   pub legends : legendsOk (k .stores .legends) ≡ true
+
+-- The arrays of a state are as long as their types say.
+pub record Sized (s : State) : Type 0 where
+  pub pitches : length (s .fixed .pitches) ≡ 4
+  pub loaded : length (s .slots .loaded) ≡ 4
+  pub pairs : length (s .copies .pairs) ≡ pairSize
+  pub fcb : length (s .forms .fcb) ≡ fcbSize
 
 -- A command, a Compose and a Start that nothing refuses: no test of its order held.
 pub record Allowed (k : Core) (c : Command) (i : Issued) : Type 0 where

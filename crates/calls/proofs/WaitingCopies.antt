@@ -1,0 +1,110 @@
+-- Demand 3: the copies that it compares are those that Compose shows of a page that waits.
+use borrow.Author.Tests.{not-true}
+use Prim.Native.Nat.{ℕ, zero, suc, _+_, _-_, _≤_, _<_}
+use mathlib.Core.Path.{_≡_, refl, sym, ap, _∙_}
+use mathlib.Core.Bool.{Bool, true, false, cond, not, _&&_, true≢false, false≢true}
+use mathlib.Core.List.{List, [], _∷_, _++_, map}
+use native.Mathlib.Omega.{arith}
+use native.Mathlib.Nat.{not-suc-le-zero, le-of-suc-le-suc}
+use lib.ListN.{getD}
+use Rattle.seq.specs.Words.{lastOr, from}
+use Rattle.seq.proofs.Laws.{every-at}
+use Rattle.numbers.specs.declared.Refusal.the-variants.{Accepted}
+use Rattle.numbers.specs.Numbers.{isAccepted, only}
+use Rattle.copies.specs.Copies.{copyCount}
+use Rattle.calls.specs.declared.Fixed.{Fixed}
+use Rattle.calls.specs.Core.{Core, World}
+use Rattle.calls.specs.Commands.{decode, traitsOf}
+use Rattle.calls.specs.Reset.{blankSheet, resetState, resetStores, fresh}
+use Rattle.calls.specs.Effects.{Effect}
+use Rattle.calls.specs.Calls.{Call, command, compose, release, refusalOf, doCompose, doRelease, perform, effect, over, step, Copy, copyAt}
+use Rattle.calls.specs.Lists.{worldAfter, counts, finishesReset, copiesOfPage, Given, given, gives, Since, sinceNow, note, sinceOver, sinceReset}
+use Rattle.calls.proofs.Accepted.{allowed}
+use Rattle.calls.proofs.Refused.{accepted-effect}
+use Rattle.calls.proofs.Answers.{ready-exactly, was-free, released-waits}
+use Rattle.calls.proofs.Invariants.{Blank, blank-call}
+use Rattle.calls.proofs.SinceReset.{idle-core, finished-waits}
+
+-- What `gives` lists is what the calls, made one after the other, answer and leave.
+pub gives-steps : (w : World) (c : Call) (cs : List Call)
+    → gives (w .core) (c ∷ cs)
+    ≡ record { answer = step w c .answer; page = cond (step w c .answer .ready) (copiesOfPage (step w c .world .core)) [] } ∷ gives (step w c .world .core) cs
+unfolding gives given step
+gives-steps w c cs = refl
+
+-- An accepted Compose, whole: the copy's number, mark and cells, over the front of the output; nothing else changes.
+pub compose-gives : (w : World) (n : ℕ) (out : List ℕ) → isAccepted (refusalOf (w .core) (compose n out)) ≡ true
+    → (let c = copyAt (w .core) n in
+    step w (compose n out)
+    ≡ record {
+      answer = record { refusal = Accepted; status = 0; ready = false; lines = 0; copy = c .number; mark = c .mark };
+      buffer = over (c .cells) out;
+      world = w;
+    })
+unfolding step perform doCompose copyAt
+compose-gives w n out e = rw (accepted-effect (w .core) (compose n out) e)
+
+-- While a page waits nothing but its Release counts, so that its copies stay.
+pub page-stays : (k : Core) (c : Call) → k .state .sheet .waiting ≡ true → counts k c ≡ true → c ≡ release
+unfolding counts
+page-stays k (command i) w e =
+    absurd (true≢false (sym w ∙ was-free {q = traitsOf (decode (i .byte)) .quiet} (not-true _ (every-at 1 _ e)) (allowed k i (every-at 0 _ e) .free)))
+page-stays k (compose n out) w e = absurd (false≢true e)
+page-stays k release w e = refl
+
+-- After any list of calls, if a page waits, its copies are those that the last deed gave.
+abbrev pub nothingYet : Given
+nothingYet = record { answer = only Accepted 0; page = [] }
+
+abbrev pub Shown : Core → Since → Type 0
+Shown k s = k .state .sheet .waiting ≡ true → lastOr nothingYet (s .gave) .page ≡ copiesOfPage k
+
+last-one : (d : Given) (l : List Given) (x : Given) → lastOr d (l ++ (x ∷ [])) ≡ x
+last-one d [] x = refl
+last-one d (y ∷ l) x = last-one y l x
+
+after-release : (k : Core) → counts k release ≡ true → effect k release .core .state .sheet .waiting ≡ false
+unfolding counts perform doRelease
+after-release k a = ap (λ (x : Effect). x .core .state .sheet .waiting) (accepted-effect k release a) ∙ released-waits k
+
+is-release : (k : Core) (c : Call) → c ≡ release → counts k c ≡ true → effect k c .core .state .sheet .waiting ≡ false
+is-release k c e a = ap (λ (x : Call). effect k x .core .state .sheet .waiting) e ∙ after-release k (sym (ap (counts k) e) ∙ a)
+
+given-page : (k : Core) (c : Call) → effect k c .answer .ready ≡ true → given k c .page ≡ copiesOfPage (effect k c .core)
+unfolding given
+given-page k c e = rw e
+
+shown-note : (k : Core) (s : Since) (c : Call) → Blank k → Shown k s → Shown (effect k c .core) (note k s c)
+unfolding note
+shown-note k s c z h = go (finishesReset k c) refl (counts k c) refl (k .state .sheet .waiting) refl
+  where
+    go : (p : Bool) → finishesReset k c ≡ p → (q : Bool) → counts k c ≡ q → (w : Bool) → k .state .sheet .waiting ≡ w → Shown (effect k c .core) (note k s c)
+    go true ep q eq w ew v = absurd (false≢true (sym (finished-waits k c z ep) ∙ v))
+    go false ep true eq true ew v = absurd (false≢true (sym (is-release k c (page-stays k c ew eq) eq) ∙ v))
+    go false ep true eq false ew v =
+        let r : effect k c .answer .ready ≡ true = ready-exactly k c ∙ ap (λ (x : Bool). not x && effect k c .core .state .sheet .waiting) ew ∙ v in
+        rw (ep, eq) (ap (λ (g : Given). g .page) (last-one nothingYet (s .gave) (given k c)) ∙ given-page k c r)
+    go false ep false eq w ew v =
+        let i : effect k c .core ≡ k = idle-core k c eq in
+        rw (ep, eq, i) (h (sym (ap (λ (x : Core). x .state .sheet .waiting) i) ∙ v))
+
+shown-over : (w : World) (s : Since) (cs : List Call) → Blank (w .core) → Shown (w .core) s → Shown (worldAfter w cs .core) (sinceOver (w .core) s cs)
+unfolding worldAfter sinceOver step
+shown-over w s [] z h = h
+shown-over w s (c ∷ cs) z h = shown-over (step w c .world) (note (w .core) s c) cs (blank-call (w .core) c z) (shown-note (w .core) s c z h)
+
+pub waiting-copies : (f : Fixed) (blocked : Bool) (w : World) (cs : List Call) → w .core ≡ fresh f blocked → Shown (worldAfter w cs .core) (sinceReset w cs)
+unfolding sinceReset fresh resetState resetStores blankSheet
+waiting-copies f blocked w cs e =
+    shown-over w (sinceNow (w .core .state .blocked)) cs (λ _ _. ap (λ (k : Core). k .stores .page) e)
+    (λ v. absurd (false≢true (sym (ap (λ (k : Core). k .state .sheet .waiting) e) ∙ v)))
+
+-- The nth of them is copy n.
+at-from : (g : ℕ → Copy) (a n i : ℕ) (d : Copy) → i < n → getD (map g (from a n)) i d ≡ g (a + i)
+at-from g a zero i d h = absurd (not-suc-le-zero h)
+at-from g a (suc n) zero d h = ap g (omega arith)
+at-from g a (suc n) (suc i) d h = at-from g (suc a) n i d (le-of-suc-le-suc h) ∙ ap g (omega arith)
+
+pub copy-at : (k : Core) (n : ℕ) (d : Copy) → 1 ≤ n → n ≤ copyCount (k .state .copies) → getD (copiesOfPage k) (n - 1) d ≡ copyAt k n
+unfolding copiesOfPage
+copy-at k n d l h = at-from (copyAt k) 1 (copyCount (k .state .copies)) (n - 1) d (omega arith) ∙ ap (copyAt k) (omega arith)
