@@ -1,14 +1,17 @@
-// Document 01, "Commands": a byte decoded, and what other sections ask of a command.
+// Document 01, "Commands": a byte decoded, and what the refusals ask of a command.
 use calls::Command;
 use calls::Control;
 use calls::Load;
 use movement::Motion;
+use numbers::Stores;
 ghost use mathlib.Core.Path.{_≡_};
 ghost use mathlib.Core.Bool.{cond};
 ghost use lib.Dec.{leb};
+ghost use Rattle.numbers.specs.Sizes.{legendSize};
 ghost use Rattle.movement.specs.declared.Motion.the-variants.{Skip};
 ghost use Rattle.calls.specs.declared.Command.the-variants.{Write, Move, Unlisted};
-ghost use Rattle.calls.specs.Commands.{nnnn, skips, decode, traitsOf, isUnlisted, isLoad};
+ghost use Rattle.calls.specs.Commands.{nnnn, skips, decode};
+ghost use Rattle.refusals.specs.Kind.{KindOf};
 
 // A skip: 1nnnn and three low bits, nnnn from 1 to 12.
 fn is_skip(byte: u8, low: u8) -> bool
@@ -32,7 +35,7 @@ fn skip_of(byte: u8) -> Command
     Command::Unlisted
 }
 
-// The bytes that are listed one by one are no skips, so that they can come first: a jump by the byte alone.
+// No byte that is listed by itself is a skip, so those bytes come first: one jump on the byte.
 pub fn decode(byte: u8) -> Command
     ensures { λ r. ⌜ r ≡ decode byte ⌝ }
 {
@@ -63,77 +66,76 @@ pub fn decode(byte: u8) -> Command
     }
 }
 
-// No-Op and Sense.
-pub(crate) fn is_quiet(command: Command) -> bool
-    ensures { λ r. ⌜ r ≡ traitsOf command .quiet ⌝ }
+// What the refusals ask of a command: each kind of command is one of these.
+pub(crate) struct Kind {
+    pub quiet: bool,
+    pub replies: bool,
+    pub load: bool,
+    pub unlisted: bool,
+}
+
+impl Kind {
+    const PLAIN: Kind = Kind {
+        quiet: false,
+        replies: false,
+        load: false,
+        unlisted: false,
+    };
+
+    const QUIET: Kind = Kind {
+        quiet: true,
+        replies: false,
+        load: false,
+        unlisted: false,
+    };
+
+    const REPLYING: Kind = Kind {
+        quiet: true,
+        replies: true,
+        load: false,
+        unlisted: false,
+    };
+
+    const LOAD: Kind = Kind {
+        quiet: false,
+        replies: false,
+        load: true,
+        unlisted: false,
+    };
+
+    const UNLISTED: Kind = Kind {
+        quiet: false,
+        replies: false,
+        load: false,
+        unlisted: true,
+    };
+}
+
+pub(crate) fn kind_of(command: Command) -> Kind
+    ensures { λ r. ⌜ KindOf command r ⌝ }
 {
     match command {
-        Command::Write(motion) => false,
-        Command::Move(motion) => false,
+        Command::Write(motion) => Kind::PLAIN,
+        Command::Move(motion) => Kind::PLAIN,
         Command::Controls(control) => match control {
-            Control::NoOp => true,
-            Control::SenseIo => true,
-            Control::Initialize => false,
-            Control::Clear => false,
-            Control::Block => false,
-            Control::Allow => false,
-            Control::Select(slot) => false,
+            Control::NoOp => Kind::QUIET,
+            Control::SenseIo => Kind::REPLYING,
+            Control::Initialize => Kind::PLAIN,
+            Control::Clear => Kind::PLAIN,
+            Control::Block => Kind::PLAIN,
+            Control::Allow => Kind::PLAIN,
+            Control::Select(slot) => Kind::PLAIN,
         },
-        Command::Loads(load) => false,
-        Command::Unlisted => false,
+        Command::Loads(load) => Kind::LOAD,
+        Command::Unlisted => Kind::UNLISTED,
     }
 }
 
-// Sense.
-pub(crate) fn replies(command: Command) -> bool
-    ensures { λ r. ⌜ r ≡ traitsOf command .replies ⌝ }
-{
-    match command {
-        Command::Write(motion) => false,
-        Command::Move(motion) => false,
-        Command::Controls(control) => match control {
-            Control::NoOp => false,
-            Control::SenseIo => true,
-            Control::Initialize => false,
-            Control::Clear => false,
-            Control::Block => false,
-            Control::Allow => false,
-            Control::Select(slot) => false,
-        },
-        Command::Loads(load) => false,
-        Command::Unlisted => false,
-    }
-}
-
-pub(crate) fn is_unlisted(command: Command) -> bool
-    ensures { λ r. ⌜ r ≡ isUnlisted command ⌝ }
-{
-    match command {
-        Command::Write(motion) => false,
-        Command::Move(motion) => false,
-        Command::Controls(control) => false,
-        Command::Loads(load) => false,
-        Command::Unlisted => true,
-    }
-}
-
-pub(crate) fn is_load(command: Command) -> bool
-    ensures { λ r. ⌜ r ≡ isLoad command ⌝ }
-{
-    match command {
-        Command::Write(motion) => false,
-        Command::Move(motion) => false,
-        Command::Controls(control) => false,
-        Command::Loads(load) => true,
-        Command::Unlisted => false,
-    }
-}
-
-// The byte count that a load check can show: no longer record comes so far.
+// The byte count that a load check can show. A longer record is refused before its load checks it.
 pub fn shown_count(n: usize) -> u16
-    ensures { λ r. ⌜ r ≡ cond (leb n 8192) n 0 ⌝ }
+    ensures { λ r. ⌜ r ≡ cond (leb n legendSize) n 0 ⌝ }
 {
-    if n <= 8192 {
+    if n <= Stores::LEGEND_BYTES {
         return n as u16;
     }
     0

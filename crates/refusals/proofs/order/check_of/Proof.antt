@@ -1,8 +1,8 @@
 -- A case each; only a load is checked.
-use mathlib.Core.Path.{sym, ap, _∙_}
+use mathlib.Core.List.{[]}
 use borrow.Author.Tests.{ltb-false}
-use Rattle.calls.specs.declared.Command.{Command}
-use Rattle.calls.specs.Calls.{badRecord, checkOf}
+use Rattle.numbers.specs.Sizes.{legendSize}
+use Rattle.calls.specs.Calls.{checkOf}
 use borrow.Author.Needs.{needs}
 use Rattle.refusals.proofs.order.check_of.Statement.{statement}
 use Rattle.refusals.proofs.order.check_of.Tie as tie
@@ -16,11 +16,10 @@ check-of-spec =
     (λ c. search needs)
     (λ c. search needs)
     (λ c. search needs)
-    (λ c κs. let s = c .before .before .before .before in ltb-false 8192 _ (ap (λ (k : Command). badRecord k (s .args .sent .now)) (sym
-    (c .before .command4 .given .1)) ∙ s .pre))
+    (λ c κs. let s = c .before .before .before .before in ltb-false legendSize _ (rw (c .before .command4 .given .1) at (s .pre 0 [])))
     (λ c. search needs)
-    (λ c. search needs)
-    (λ c. search needs)
-    (λ c. search needs)
-    (λ c. rw (c .before .before .command4 .given .1) (c .load-check .ensures))
-    (λ c. search needs))
+    (λ c s b reply f. rw (c .before .command .given .1))
+    (λ c s b reply f. rw (c .before .command2 .given .1))
+    (λ c s b reply f. rw (c .before .command3 .given .1))
+    (λ c s b reply f. rw (c .before .before .command4 .given .1) (c .load-check .ensures s f))
+    (λ c s b reply f. rw (c .enum-told .given .1)))

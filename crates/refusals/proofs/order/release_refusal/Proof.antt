@@ -1,5 +1,5 @@
 -- The tests in their order: those that are passed are false, and the first that holds gives its number.
-use mathlib.Core.Path.{sym, ap, _∙_}
+use mathlib.Core.Path.{sym, ap}
 use mathlib.Core.Bool.{not}
 use Rattle.seq.proofs.Laws.{clear, hit, pass, first-only}
 use Rattle.numbers.specs.declared.Refusal.the-variants.{NoPage, BadStore}
@@ -10,5 +10,5 @@ pub release-refusal-spec : {M : Type 1} → statement M
 release-refusal-spec =
     tie.close
     (tie.spec
-    (λ c k w ok. sym (first-only (pass BadStore (ap not ok) (hit (ap not w ∙ c .if1 .taken)))))
-    (λ c k w ok. sym (first-only (pass BadStore (ap not ok) (pass NoPage (ap not w ∙ c .if1 .left) clear)))))
+    (λ c m ok. sym (first-only (pass BadStore (ap not ok) (hit (c .if1 .taken)))))
+    (λ c m ok. sym (first-only (pass BadStore (ap not ok) (pass NoPage (c .if1 .left) clear)))))

@@ -11,8 +11,9 @@ use Rattle.refusals.proofs.order.start_refusal.Tie as tie
 pub start-refusal-spec : {M : Type 1} → statement M
 unfolding startRefusal
 start-refusal-spec =
-    tie.close (tie.spec (λ c κs. search needs) (λ c. sym (first-only (hit (ap not (sym (c .before .sizes-ok .ensures))
-    ∙ c .if1 .taken)))) (λ c κs. search needs) (λ c. sym (first-only (pass BadStore (ap not (sym
-    (c .before .before .before .sizes-ok .ensures)) ∙ c .before .before .if1 .left) (hit (ap not (sym (c .before .form-ok .ensures))
-    ∙ c .if2 .taken))))) (λ c. sym (first-only (pass BadStore (ap not (sym (c .before .before .before .sizes-ok .ensures))
-    ∙ c .before .before .if1 .left) (pass BadForm (ap not (sym (c .before .form-ok .ensures)) ∙ c .if2 .left) clear)))))
+    tie.close
+    (tie.spec
+    (λ c m s. sym (first-only (hit (ap not s ∙ c .if1 .taken))))
+    (λ c κs. search needs)
+    (λ c m s. sym (first-only (pass BadStore (ap not s ∙ c .before .before .if1 .left) (hit (rw (← c .before .form-ok .ensures) (c .if2 .taken))))))
+    (λ c m s. sym (first-only (pass BadStore (ap not s ∙ c .before .before .if1 .left) (pass BadForm (rw (← c .before .form-ok .ensures) (c .if2 .left)) clear)))))
