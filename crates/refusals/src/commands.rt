@@ -66,7 +66,7 @@ pub fn decode(byte: u8) -> Command
     }
 }
 
-// What the refusals ask of a command: each kind of command is one of these.
+// What the refusals ask of a command: whether it is quiet, replies, is a load, is not listed.
 pub(crate) struct Kind {
     pub quiet: bool,
     pub replies: bool,

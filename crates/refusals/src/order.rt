@@ -137,7 +137,7 @@ pub fn release_refusal(state: State) -> Refusal
     Refusal::Accepted
 }
 
-// Refusal 9: a store has a wrong size. 10: the form length or a pitch is not listed.
+// Refusal 9: a store has a wrong size, as `sized` says. 10: the form length or a pitch is not listed.
 pub fn start_refusal(sized: bool, form: u32, p0: u32, p1: u32, p2: u32, p3: u32) -> Refusal
     ensures { λ r. ⌜ ((m : Stores) → sizesOk m ≡ sized → r ≡ startRefusal (asked form (p0 ∷ p1 ∷ p2 ∷ p3 ∷ [])) m) ⌝ }
 {

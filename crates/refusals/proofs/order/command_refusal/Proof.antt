@@ -39,19 +39,17 @@ asks d h k c i =
     ∷ when (ltb 1 (movement k c .pages)) TwoPages
     ∷ []
 
+-- where 9 is passed, the first of them that holds gives the number
 by-kind : (k : Core) (c : Command) (i : Issued) {d : Kind} {h : Sheet} {x : Refusal} → KindOf c d → k .state .sheet ≡ h → coreOk k ≡ true
     → First Accepted (asks d h k c i) x → x ≡ firstOr Accepted (commandTests k c i)
 by-kind k c i d h ok f =
     sym (first-only (pass BadStore (ap not ok) (rw (← h, d .quiet, d .replies, d .load, d .unlisted) at f)))
 
-abbrev start : tie.After-kind-of → tie.Start
-start c = c .before .before .before
-
 abbrev tests : tie.After-kind-of → ℕ → Core → List (Option Refusal)
 tests c b k =
-    let s = start c .args in asks (c .kind-of .result) (s .sheet) k (s .command) (issued b (s .sent .now) (s .reply .now))
+    let s = c .before .before .before .args in asks (c .kind-of .result) (s .sheet) k (s .command) (issued b (s .sent .now) (s .reply .now))
 
--- each test that is passed
+-- 1 and 4 are passed, then 2, then 5
 abbrev at4 : tie.Else2 → tie.After-kind-of
 at4 c = c .before .before .before .before .before .before .before
 

@@ -51,5 +51,7 @@ compose-refusal-spec =
     (hit (rw (← c .before .copy-count .ensures) (c .if2 .taken)))))))
     (λ c. search needs)
     (λ c. search needs)
-    (λ c m f ok. sym (first-only (past7 (c .before .before) m ok (hit (rw (← form-lines (start (c .before .before) .args .state) _ f) (lt-ltb _ _ (c .if3 .taken)))))))
-    (λ c m f ok. sym (first-only (past7 (c .before .before) m ok (pass TooShort (rw (← form-lines (start (c .before .before) .args .state) _ f) (le-ltb _ _ (c .if3 .left))) clear)))))
+    (λ c m f ok. let e = c .before .before in
+    sym (first-only (past7 e m ok (hit (rw (← form-lines (start e .args .state) _ f) (lt-ltb _ _ (c .if3 .taken)))))))
+    (λ c m f ok. let e = c .before .before in
+    sym (first-only (past7 e m ok (pass TooShort (rw (← form-lines (start e .args .state) _ f) (le-ltb _ _ (c .if3 .left))) clear)))))
