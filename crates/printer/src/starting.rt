@@ -79,15 +79,8 @@ impl Printer {
             fixed: fixed,
             blocked: blocked,
             forms: forms,
-            slots: Slots {
-                loaded: [true, false, false, false],
-                selected: 0,
-            },
-            copies: Copies {
-                pairs: [1, 0, 0, 0, 0, 0, 0, 0, 0, 0, 0, 0, 0, 0, 0, 0],
-                count: 2,
-                reference: 1,
-            },
+            slots: Slots::START,
+            copies: Copies::START,
             sheet: Sheet {
                 line: 1,
                 written: false,

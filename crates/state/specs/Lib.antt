@@ -1,3 +1,4 @@
 pub mod State
 pub mod Contents
 pub mod Packed
+pub mod Host

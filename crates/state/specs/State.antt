@@ -109,7 +109,7 @@ worldAt s m = record { core = coreAt s m; sense = senseAt s }
 
 -- Bytes that stand for a printer: as many as a state has, and each flag 0 or 1. Every other range is the printer's own to judge.
 abbrev pub flagPlaces : List ℕ
-flagPlaces = blockedAt ∷ loadedAt ∷ loadedAt + 1 ∷ loadedAt + 2 ∷ loadedAt + 3 ∷ writtenAt ∷ waitingAt ∷ dueAt ∷ []
+flagPlaces = blockedAt ∷ loadedAt ∷ (loadedAt + 1) ∷ (loadedAt + 2) ∷ (loadedAt + 3) ∷ writtenAt ∷ waitingAt ∷ dueAt ∷ []
 
 unfoldable pub readable : List ℕ → Bool
 readable s = every (eqb (length s) stateSize ∷ all (λ n. leb (byteAt s n) 1) flagPlaces ∷ [])

@@ -15,8 +15,6 @@ ghost use mathlib.Core.List.{_++_};
 ghost use lib.ListN.{length, take, drop};
 ghost use lib.Dec.{leb};
 ghost use Rattle.seq.specs.Words.{all};
-ghost use Rattle.form.specs.Form.{fcbSize};
-ghost use Rattle.copies.specs.Copies.{pairSize};
 ghost use Rattle.printer.specs.Layout.{pairsAt, fcbAt, sheetAt, stateSize};
 ghost use Rattle.state.specs.State.{frontBytes, sheetBytes, smallBytes, printerBytes, byteAt, flagPlaces, readable, stateAt, printerAt};
 ghost use Rattle.state.specs.State.{OwnSheet, SameArrays};
@@ -206,14 +204,20 @@ fn lay_small(p: Printer, s: &mut [u8])
     lay_sheet(state.sheet, p.sense, s);
 }
 
-// The bytes of both arrays.
-fn lay_arrays(forms: Forms, copies: Copies, s: &mut [u8])
+// The bytes of each array.
+fn lay_pairs(copies: Copies, s: &mut [u8])
     requires { ⌜ length (now s) ≡ stateSize ⌝ }
-    ensures { λ _. ⌜ now (s .exit) ≡ take pairsAt (now (s .entry)) ++ (copies .pairs ++ forms .fcb) ⌝ }
+    ensures { λ _. ⌜ now (s .exit) ≡ take pairsAt (now (s .entry)) ++ (copies .pairs ++ drop fcbAt (now (s .entry))) ⌝ }
 {
     let pairs = copies.pairs;
-    let fcb = forms.fcb;
     seq::copy_all(&mut s[Printer::PAIRS_AT..Printer::FCB_AT], &pairs);
+}
+
+fn lay_fcb(forms: Forms, s: &mut [u8])
+    requires { ⌜ length (now s) ≡ stateSize ⌝ }
+    ensures { λ _. ⌜ now (s .exit) ≡ take fcbAt (now (s .entry)) ++ forms .fcb ⌝ }
+{
+    let fcb = forms.fcb;
     seq::copy_all(&mut s[Printer::FCB_AT..Printer::STATE_BYTES], &fcb);
 }
 
@@ -246,7 +250,8 @@ pub fn put_all(step: Step, s: &mut [u8]) -> Answer
 {
     let p = step.printer;
     let state = p.state;
-    lay_arrays(state.forms, state.copies, s);
+    lay_fcb(state.forms, s);
+    lay_pairs(state.copies, s);
     lay_small(p, s);
     step.answer
 }

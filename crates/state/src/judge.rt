@@ -89,7 +89,7 @@ fn copies_ok(s: &[u8]) -> bool
     requires { ⌜ length (now s) ≡ stateSize ⌝ }
     ensures { λ r. ⌜ r ≡ copiesOk (stateAt (now (s .entry))) ⌝ }
 {
-    copies::kept_ok(
+    copies::copies_ok(
         &s[Printer::PAIRS_AT..Printer::FCB_AT],
         s[Printer::PAIR_COUNT_AT],
         s[Printer::REFERENCE_AT],

@@ -1,16 +1,21 @@
--- Document 01, "Calls": the four calls as a C host makes them, over the state's bytes.
+-- Document 01, "Calls": the calls as a C host makes them, over the state's bytes.
 use Prim.Native.Nat.{ℕ}
 use mathlib.Core.Bool.{cond}
 use mathlib.Core.List.{List, [], _∷_}
 use lib.Dec.{eqb}
 use lib.ListN.{length}
+use Rattle.numbers.specs.declared.Answer.{Answer}
 use Rattle.numbers.specs.declared.Refusal.the-variants.{BadStore}
 use Rattle.numbers.specs.Numbers.{only}
 use Rattle.calls.specs.Core.{Stores, World}
 use Rattle.calls.specs.Calls.{Call, Outcome, lent, step}
-use Rattle.calls.specs.Start.{startOutcome}
-use Rattle.state.specs.State.{stateSize, worldAt, readable, bytesIn}
+use Rattle.calls.specs.Start.{Asked, startOutcome}
+use Rattle.printer.specs.Layout.{stateSize}
+use Rattle.state.specs.State.{bytesOf, worldAt, readable}
 use Rattle.state.specs.Packed.{packed}
+
+abbrev pub bytesIn : World → List ℕ
+bytesIn w = bytesOf (w .core .state) (w .sense)
 
 -- All that a call hands back and leaves: its packed answer, its buffer, the state's bytes and the stores.
 pub record Called : Type 0 where
@@ -22,21 +27,24 @@ pub record Called : Type 0 where
 abbrev pub called : ℕ → List ℕ → List ℕ → Stores → Called
 called answer buffer state m = record { answer = answer; buffer = buffer; state = state; stores = m }
 
--- An outcome as the host finds it.
+-- What a call left, its answer not yet packed; and an outcome as the host finds it.
+abbrev pub left : Answer → List ℕ → List ℕ → Stores → Called
+left a buffer state m = called (packed a) buffer state m
+
 abbrev pub shown : Outcome → Called
-shown o = called (packed (o .answer)) (o .buffer) (bytesIn (o .world)) (o .world .core .stores)
+shown o = left (o .answer) (o .buffer) (bytesIn (o .world)) (o .world .core .stores)
 
 -- Numbers, 9: bytes that stand for no printer get it, and nothing is written.
 abbrev pub unread : List ℕ → List ℕ → Stores → Called
-unread buffer s m = called (packed (only BadStore 0)) buffer s m
+unread buffer s m = left (only BadStore 0) buffer s m
 
 -- Command, Compose and Release.
 unfoldable pub callBytes : List ℕ → Stores → Call → Called
 callBytes s m c = cond (readable s) (shown (step (worldAt s m) c)) (unread (lent c) s m)
 
 -- Start reads no state; it needs only the room for one.
-unfoldable pub startBytes : ℕ → List ℕ → List ℕ → Stores → Called
-startBytes form pitches s m = cond (eqb (length s) stateSize) (shown (startOutcome form pitches m)) (unread [] s m)
+unfoldable pub startBytes : Asked → List ℕ → Stores → Called
+startBytes a s m = cond (eqb (length s) stateSize) (shown (startOutcome a m)) (unread [] s m)
 
 -- What a host holds between calls: the state's bytes and the stores; and what a list of calls leaves of it, where each gets what the one before it
 -- left.
