@@ -1,3 +1,3 @@
 mod Put
-mod Ready
+mod Good
 mod Steps

@@ -1,4 +1,5 @@
-// The calls on a state's bytes: what refuses one, or the method that does it on the printer by value; and what that can have changed is put back.
+// A call on the state's bytes: judged, refused or done by a method of the printer that the bytes stand for, and what that can have changed put back. The
+// printer is decoded and put back in the arm of each command, and nowhere before: so the compiler leaves out what the command does not use.
 use calls::Command;
 use calls::Control;
 use calls::Load;
@@ -7,48 +8,286 @@ use movement::Motion;
 use numbers::Answer;
 use numbers::Refusal;
 use printer::Printer;
-use printer::Step;
+use refusals::commands;
+use refusals::order;
+use state::answer;
 use state::codec;
+use state::judge;
 ghost use mathlib.Core.Path.{_≡_};
-ghost use mathlib.Core.Bool.{true, false, _&&_};
-ghost use mathlib.Core.List.{List, [], _∷_, _++_};
-ghost use Prim.Native.Nat.{ℕ, _≤_};
-ghost use lib.Dec.{ltb};
-ghost use lib.ListN.{length, drop};
-ghost use Rattle.seq.specs.Words.{firstOr};
-ghost use Rattle.numbers.specs.Sizes.{senseSize};
-ghost use Rattle.numbers.specs.declared.Checked.the-variants.{Sound};
-ghost use Rattle.numbers.specs.declared.Refusal.the-variants.{Accepted};
-ghost use Rattle.form.specs.Form.{formOk};
-ghost use Rattle.calls.specs.declared.Control.the-variants.{Initialize};
-ghost use Rattle.calls.specs.Core.{Stores, storesOf, laidOut};
-ghost use Rattle.calls.specs.Commands.{controlTraits};
-ghost use Rattle.calls.specs.Effects.{doMove, doWrite, loadCheck, doLoad, doControl, doCommand};
-ghost use Rattle.calls.specs.Calls.{command, compose, release, commandTests, outcomeOf, step};
-ghost use Rattle.calls.specs.Start.{startOutcome};
-ghost use Rattle.printer.specs.Whole.{stateOf, Ready};
-ghost use Rattle.state.specs.State.{smallBytes, stateAt, senseAt, coreAt, worldAt, readable, sheetOver, left, leftBy};
-ghost use Rattle.state.specs.Contents.{soundBytes};
+ghost use mathlib.Core.List.{List, [], _∷_};
+ghost use Prim.Native.Nat.{ℕ};
+ghost use lib.ListN.{length};
+ghost use Rattle.calls.specs.Core.{Stores, storesOf};
+ghost use Rattle.calls.specs.Commands.{issued};
+ghost use Rattle.calls.specs.Effects.{refused, doMove, doWrite, doLoad, doControl, doCommand};
+ghost use Rattle.calls.specs.Calls.{command, compose, release, step};
+ghost use Rattle.calls.specs.Start.{asked, startOutcome};
+ghost use Rattle.printer.specs.Layout.{stateSize};
+ghost use Rattle.printer.specs.Premises.{Fit, Writes};
+ghost use Rattle.state.specs.State.{stateAt, worldAt};
+ghost use Rattle.state.specs.Host.{called, left, shown, callBytes, startBytes};
+ghost use Rattle.serve.specs.Served.{Readable, Judged, Accepts, Asks, AsksLoad, AsksControl, Served};
 
-// A step's printer back into the state, where no more than its sheet and its sense can have changed.
-fn put_sheet(step: Step, state: &mut [u8]) -> Answer
-    requires { ⌜ length (now state) ≡ 184 ⌝ }
-    ensures answer { λ r. ⌜ r ≡ step .answer ⌝ }
-    ensures state { λ _. ⌜ now (state .exit) ≡ sheetOver (now (state .entry)) (step .printer .sheet) (step .printer .sense) ⌝ }
+// Write, then space or skip.
+fn write(
+    form: Layout,
+    motion: Motion,
+    sent: &[u8],
+    state: &mut [u8],
+    page: &mut [u8],
+    tables: &[u8],
+) -> Answer
+    requires { ⌜ Asks (now state) (Writes (stateAt (now state)) form (now sent) (now page) (now tables)) ⌝ }
+    ensures { λ r. ⌜ ((b l : List ℕ) → Served (λ k. doWrite k motion (now (sent .entry)))
+        (now (state .entry)) (storesOf (now (page .entry)) l (now (tables .entry))) b r
+        (now (state .exit)) (storesOf (now (page .exit)) l (now (tables .entry))) b) ⌝ }
 {
-    let q = step.printer;
-    state::put_sheet(q.sheet, q.sense, state);
+    codec::put_sheet(
+        codec::decode(state).write(form, motion, sent, page, tables),
+        state,
+    )
+}
+
+// The immediate commands.
+fn move_on(form: Layout, motion: Motion, state: &mut [u8]) -> Answer
+    requires { ⌜ Asks (now state) (Fit (stateAt (now state)) form) ⌝ }
+    ensures { λ r. ⌜ ((b : List ℕ) (m : Stores) → Served (λ k. doMove k motion) (now (state .entry)) m b r (now (state .exit)) m b) ⌝ }
+{
+    codec::put_sheet(codec::decode(state).move_on(form, motion), state)
+}
+
+// The five loads.
+fn load(load: Load, sent: &[u8], state: &mut [u8], legends: &mut [u8], tables: &mut [u8]) -> Answer
+    requires { ⌜ AsksLoad (now state) load (now sent) (now legends) (now tables) ⌝ }
+    ensures { λ r. ⌜ ((b p : List ℕ) → Served (λ k. doLoad k load (now (sent .entry)))
+        (now (state .entry)) (storesOf p (now (legends .entry)) (now (tables .entry))) b r
+        (now (state .exit)) (storesOf p (now (legends .exit)) (now (tables .exit))) b) ⌝ }
+{
+    match load {
+        Load::Fcb => codec::put_all(codec::decode(state).load_fcb(sent), state),
+        Load::TranslateTable => codec::put_small(
+            codec::decode(state).load_table(sent, tables),
+            state,
+        ),
+        Load::CopyModification => {
+            codec::put_small(
+                codec::decode(state).load_legends(sent, legends, tables),
+                state,
+            )
+        }
+        Load::OverlaySequence => codec::put_all(codec::decode(state).load_sequence(sent), state),
+        Load::CopyNumber => codec::put_small(codec::decode(state).load_number(sent), state),
+    }
+}
+
+// The control commands. No-Op changes nothing.
+fn control(
+    control: Control,
+    reply: &mut [u8],
+    state: &mut [u8],
+    legends: &mut [u8],
+    tables: &mut [u8],
+) -> Answer
+    requires { ⌜ AsksControl (now state) control (now reply) (now legends) (now tables) ⌝ }
+    ensures { λ r. ⌜ ((p : List ℕ) → Served (λ k. doControl k control)
+        (now (state .entry)) (storesOf p (now (legends .entry)) (now (tables .entry))) (now (reply .entry)) r
+        (now (state .exit)) (storesOf p (now (legends .exit)) (now (tables .exit))) (now (reply .exit))) ⌝ }
+{
+    match control {
+        Control::NoOp => {
+            let step = codec::decode(state).no_op();
+            step.answer
+        }
+        Control::SenseIo => codec::put_sheet(codec::decode(state).sense_io(reply), state),
+        Control::Initialize => codec::put_all(
+            codec::decode(state).initialize(legends, tables),
+            state,
+        ),
+        Control::Clear => codec::put_sheet(codec::decode(state).clear(), state),
+        Control::Block => codec::put_small(codec::decode(state).block(), state),
+        Control::Allow => codec::put_small(codec::decode(state).allow(), state),
+        Control::Select(slot) => codec::put_small(codec::decode(state).select(slot), state),
+    }
+}
+
+// A refused call tells it, and puts back the sense.
+fn refuse(refusal: Refusal, count: u16, state: &mut [u8]) -> Answer
+    requires { ⌜ Readable (now state) ⌝ }
+    ensures { λ r. ⌜ ((b : List ℕ) (m : Stores) → Served (λ k. refused k count refusal) (now (state .entry)) m b r (now (state .exit)) m b) ⌝ }
+{
+    codec::put_sheet(codec::decode(state).refuse(refusal, count), state)
+}
+
+// An accepted command.
+fn perform(
+    form: Layout,
+    command: Command,
+    sent: &[u8],
+    reply: &mut [u8],
+    state: &mut [u8],
+    page: &mut [u8],
+    legends: &mut [u8],
+    tables: &mut [u8],
+) -> Answer
+    requires { ⌜ ((b : ℕ) → Accepts (now state) (storesOf (now page) (now legends) (now tables)) form command (issued b (now sent) (now reply))) ⌝ }
+    ensures { λ r. ⌜ ((b : ℕ) → Served (λ k. doCommand k command (issued b (now (sent .entry)) (now (reply .entry))))
+        (now (state .entry)) (storesOf (now (page .entry)) (now (legends .entry)) (now (tables .entry))) (now (reply .entry)) r
+        (now (state .exit)) (storesOf (now (page .exit)) (now (legends .exit)) (now (tables .exit))) (now (reply .exit))) ⌝ }
+{
+    match command {
+        Command::Write(motion) => write(form, motion, sent, state, page, tables),
+        Command::Move(motion) => move_on(form, motion, state),
+        Command::Controls(which) => control(which, reply, state, legends, tables),
+        Command::Loads(which) => load(which, sent, state, legends, tables),
+        Command::Unlisted => refuse(Refusal::NotListed, 0, state),
+    }
+}
+
+// A command on bytes that were judged good.
+fn obey(
+    form: Layout,
+    byte: u8,
+    sent: &[u8],
+    reply: &mut [u8],
+    state: &mut [u8],
+    page: &mut [u8],
+    legends: &mut [u8],
+    tables: &mut [u8],
+) -> Answer
+    requires { ⌜ Judged (now state) (storesOf (now page) (now legends) (now tables)) form ⌝ }
+    ensures { λ r. ⌜ left r (now (reply .exit)) (now (state .exit)) (storesOf (now (page .exit)) (now (legends .exit)) (now (tables .exit)))
+        ≡ shown (step (worldAt (now (state .entry)) (storesOf (now (page .entry)) (now (legends .entry)) (now (tables .entry))))
+        (command (issued byte (now (sent .entry)) (now (reply .entry))))) ⌝ }
+{
+    let command = commands::decode(byte);
+    let fixed = codec::fixed(state);
+    let sheet = codec::sheet(state);
+    let refusal = order::command_refusal(fixed, sheet, command, sent, reply);
+    if refusal.is_accepted() {
+        return perform(form, command, sent, reply, state, page, legends, tables);
+    }
+    refuse(refusal, commands::shown_count(sent.len()), state)
+}
+
+pub fn command(
+    byte: u8,
+    sent: &[u8],
+    reply: &mut [u8],
+    state: &mut [u8],
+    page: &mut [u8],
+    legends: &mut [u8],
+    tables: &mut [u8],
+) -> u64
+    ensures { λ r. ⌜ called r (now (reply .exit)) (now (state .exit)) (storesOf (now (page .exit)) (now (legends .exit)) (now (tables .exit)))
+        ≡ callBytes (now (state .entry)) (storesOf (now (page .entry)) (now (legends .entry)) (now (tables .entry)))
+        (command (issued byte (now (sent .entry)) (now (reply .entry)))) ⌝ }
+{
+    let found = judge::judge(state, page, legends, tables);
+    if !found.sound {
+        return answer::unread();
+    }
+    answer::pack(obey(found.form, byte, sent, reply, state, page, legends, tables))
+}
+
+// The copy with this index, from 1, of the page that waits. It changes nothing but the output.
+fn copy_page(
+    form: Layout,
+    copy: u32,
+    out: &mut [u8],
+    state: &[u8],
+    page: &[u8],
+    legends: &[u8],
+    tables: &[u8],
+) -> Answer
+    requires { ⌜ Judged (now state) (storesOf (now page) (now legends) (now tables)) form ⌝ }
+    ensures { λ r. ⌜ (let m = storesOf (now (page .entry)) (now (legends .entry)) (now (tables .entry)) in
+        left r (now (out .exit)) (now (state .entry)) m ≡ shown (step (worldAt (now (state .entry)) m) (compose copy (now (out .entry))))) ⌝ }
+{
+    let p = codec::decode(state);
+    let refusal = order::compose_refusal(p.state, form, copy, out);
+    if refusal.is_accepted() {
+        let step = p.compose(form, copy as u16, out, page, legends);
+        return step.answer;
+    }
+    let step = p.refuse(refusal, 0);
     step.answer
 }
 
-// And where any field can have changed.
-fn put_all(step: Step, state: &mut [u8]) -> Answer
-    requires { ⌜ length (now state) ≡ 184 ⌝ }
-    ensures answer { λ r. ⌜ r ≡ step .answer ⌝ }
-    ensures state { λ _. ⌜ ((k : List ℕ) → now (state .exit) ≡ smallBytes (stateOf (step .printer) k) (step .printer .sense) ++ drop 24 (now (state .entry))) ⌝ }
+pub fn compose(
+    copy: u32,
+    out: &mut [u8],
+    state: &[u8],
+    page: &[u8],
+    legends: &[u8],
+    tables: &[u8],
+) -> u64
+    ensures { λ r. ⌜ (let m = storesOf (now (page .entry)) (now (legends .entry)) (now (tables .entry)) in
+        called r (now (out .exit)) (now (state .entry)) m ≡ callBytes (now (state .entry)) m (compose copy (now (out .entry)))) ⌝ }
 {
-    state::encode(step.printer, state);
-    step.answer
+    let found = judge::judge(state, page, legends, tables);
+    if !found.sound {
+        return answer::unread();
+    }
+    answer::pack(copy_page(found.form, copy, out, state, page, legends, tables))
+}
+
+// The page that waits is done with.
+fn release_page(
+    form: Layout,
+    state: &mut [u8],
+    page: &mut [u8],
+    legends: &mut [u8],
+    tables: &mut [u8],
+) -> Answer
+    requires { ⌜ Judged (now state) (storesOf (now page) (now legends) (now tables)) form ⌝ }
+    ensures { λ r. ⌜ left r [] (now (state .exit)) (storesOf (now (page .exit)) (now (legends .exit)) (now (tables .exit)))
+        ≡ shown (step (worldAt (now (state .entry)) (storesOf (now (page .entry)) (now (legends .entry)) (now (tables .entry)))) release) ⌝ }
+{
+    let p = codec::decode(state);
+    let refusal = order::release_refusal(p.state);
+    if refusal.is_accepted() {
+        return codec::put_all(p.release(page, legends, tables), state);
+    }
+    refuse(refusal, 0, state)
+}
+
+pub fn release(state: &mut [u8], page: &mut [u8], legends: &mut [u8], tables: &mut [u8]) -> u64
+    ensures { λ r. ⌜ called r [] (now (state .exit)) (storesOf (now (page .exit)) (now (legends .exit)) (now (tables .exit)))
+        ≡ callBytes (now (state .entry)) (storesOf (now (page .entry)) (now (legends .entry)) (now (tables .entry))) release ⌝ }
+{
+    let found = judge::judge(state, page, legends, tables);
+    if !found.sound {
+        return answer::unread();
+    }
+    answer::pack(release_page(found.form, state, page, legends, tables))
+}
+
+// A Start on a state with room for one.
+fn begin(
+    form: u32,
+    p0: u32,
+    p1: u32,
+    p2: u32,
+    p3: u32,
+    state: &mut [u8],
+    page: &mut [u8],
+    legends: &mut [u8],
+    tables: &mut [u8],
+) -> Answer
+    requires { ⌜ length (now state) ≡ stateSize ⌝ }
+    ensures { λ r. ⌜ left r [] (now (state .exit)) (storesOf (now (page .exit)) (now (legends .exit)) (now (tables .exit)))
+        ≡ shown (startOutcome (asked form (p0 ∷ p1 ∷ p2 ∷ p3 ∷ []))
+        (storesOf (now (page .entry)) (now (legends .entry)) (now (tables .entry)))) ⌝ }
+{
+    let sized = judge::sizes_ok(page, legends, tables);
+    let refusal = order::start_refusal(sized, form, p0, p1, p2, p3);
+    if refusal.is_accepted() {
+        return codec::put_all(
+            Printer::NONE.start(form, p0, p1, p2, p3, page, legends, tables),
+            state,
+        );
+    }
+    codec::put_all(Printer::NONE.refuse(refusal, 0), state)
 }
 
 pub fn start(
@@ -61,235 +300,13 @@ pub fn start(
     page: &mut [u8],
     legends: &mut [u8],
     tables: &mut [u8],
-) -> Answer
-    requires { ⌜ length (now state) ≡ 184 ⌝ }
-    ensures { λ r. ⌜ left r [] (now (state .exit)) (storesOf (now (page .exit)) (now (legends .exit)) (now (tables .exit)))
-        ≡ leftBy (startOutcome form (p0 ∷ p1 ∷ p2 ∷ p3 ∷ []) (storesOf (now (page .entry)) (now (legends .entry)) (now (tables .entry)))) ⌝ }
+) -> u64
+    ensures { λ r. ⌜ called r [] (now (state .exit)) (storesOf (now (page .exit)) (now (legends .exit)) (now (tables .exit)))
+        ≡ startBytes (asked form (p0 ∷ p1 ∷ p2 ∷ p3 ∷ [])) (now (state .entry))
+        (storesOf (now (page .entry)) (now (legends .entry)) (now (tables .entry))) ⌝ }
 {
-    let refusal = refusals::order::start_refusal(form, p0, p1, p2, p3, page, legends, tables);
-    if refusal.is_accepted() {
-        let begun = Printer::begin(
-            form,
-            p0,
-            p1,
-            p2,
-            p3,
-            &mut state[24..184],
-            page,
-            legends,
-            tables,
-        );
-        return put_all(begun, state);
+    if state.len() != Printer::STATE_BYTES {
+        return answer::unread();
     }
-    seq::fill(&mut state[24..184], 0);
-    put_all(Printer::none(refusal), state)
-}
-
-// Write, then space or skip.
-fn write(
-    form: Layout,
-    motion: Motion,
-    sent: &[u8],
-    state: &mut [u8],
-    page: &mut [u8],
-    tables: &[u8],
-) -> Answer
-    requires { ⌜ length (now state) ≡ 184 ⌝ }
-    requires { ⌜ readable (now state) ≡ true ⌝ }
-    requires { ⌜ Ready (stateAt (now state)) form ⌝ }
-    requires { ⌜ length (now sent) ≤ 204 ⌝ }
-    requires { ⌜ length (now page) ≡ 26928 ⌝ }
-    requires { ⌜ length (now tables) ≡ 1024 ⌝ }
-    ensures { λ r. ⌜ ((b l : List ℕ) → left r b (now (state .exit)) (storesOf (now (page .exit)) l (now (tables .entry)))
-        ≡ leftBy (outcomeOf (senseAt (now (state .entry))) b
-        (doWrite (coreAt (now (state .entry)) (storesOf (now (page .entry)) l (now (tables .entry)))) motion (now (sent .entry))))) ⌝ }
-{
-    let p = state::decode(state);
-    let step = p.write(form, motion, sent, &state[24..184], page, tables);
-    put_sheet(step, state)
-}
-
-// The immediate commands.
-fn move_on(form: Layout, motion: Motion, state: &mut [u8]) -> Answer
-    requires { ⌜ length (now state) ≡ 184 ⌝ }
-    requires { ⌜ readable (now state) ≡ true ⌝ }
-    requires { ⌜ Ready (stateAt (now state)) form ⌝ }
-    ensures { λ r. ⌜ ((b : List ℕ) (m : Stores) → left r b (now (state .exit)) m
-        ≡ leftBy (outcomeOf (senseAt (now (state .entry))) b (doMove (coreAt (now (state .entry)) m) motion))) ⌝ }
-{
-    let p = state::decode(state);
-    let step = p.move_on(form, motion, &state[24..184]);
-    put_sheet(step, state)
-}
-
-// The five loads.
-fn load(load: Load, sent: &[u8], state: &mut [u8], legends: &mut [u8], tables: &mut [u8]) -> Answer
-    requires { ⌜ length (now state) ≡ 184 ⌝ }
-    requires { ⌜ readable (now state) ≡ true ⌝ }
-    requires { ⌜ formOk (stateAt (now state) .fixed .length) (stateAt (now state) .fixed .pitches) ≡ true ⌝ }
-    requires { ⌜ stateAt (now state) .slots .selected ≤ 3 ⌝ }
-    requires { ⌜ loadCheck (stateAt (now state) .fixed .length) load (now sent) ≡ Sound ⌝ }
-    requires { ⌜ length (now sent) ≤ 8192 ⌝ }
-    requires { ⌜ length (now legends) ≡ 8192 ⌝ }
-    requires { ⌜ length (now tables) ≡ 1024 ⌝ }
-    ensures { λ r. ⌜ ((b p : List ℕ) → left r b (now (state .exit)) (storesOf p (now (legends .exit)) (now (tables .exit)))
-        ≡ leftBy (outcomeOf (senseAt (now (state .entry))) b
-        (doLoad (coreAt (now (state .entry)) (storesOf p (now (legends .entry)) (now (tables .entry)))) load (now (sent .entry))))) ⌝ }
-{
-    let p = state::decode(state);
-    let step = p.load(load, sent, &mut state[24..184], legends, tables);
-    put_all(step, state)
-}
-
-fn initialize(state: &mut [u8], legends: &mut [u8], tables: &mut [u8]) -> Answer
-    requires { ⌜ length (now state) ≡ 184 ⌝ }
-    requires { ⌜ readable (now state) ≡ true ⌝ }
-    requires { ⌜ formOk (stateAt (now state) .fixed .length) (stateAt (now state) .fixed .pitches) ≡ true ⌝ }
-    requires { ⌜ length (now legends) ≡ 8192 ⌝ }
-    requires { ⌜ length (now tables) ≡ 1024 ⌝ }
-    ensures { λ r. ⌜ ((b p : List ℕ) → left r b (now (state .exit)) (storesOf p (now (legends .exit)) (now (tables .exit)))
-        ≡ leftBy (outcomeOf (senseAt (now (state .entry))) b
-        (doControl (coreAt (now (state .entry)) (storesOf p (now (legends .entry)) (now (tables .entry)))) Initialize))) ⌝ }
-{
-    let p = state::decode(state);
-    let step = p.initialize(&mut state[24..184], legends, tables);
-    put_all(step, state)
-}
-
-// The control commands, a method each. No-Op changes nothing.
-fn control(
-    control: Control,
-    reply: &mut [u8],
-    state: &mut [u8],
-    legends: &mut [u8],
-    tables: &mut [u8],
-) -> Answer
-    requires { ⌜ length (now state) ≡ 184 ⌝ }
-    requires { ⌜ readable (now state) ≡ true ⌝ }
-    requires { ⌜ formOk (stateAt (now state) .fixed .length) (stateAt (now state) .fixed .pitches) ≡ true ⌝ }
-    requires { ⌜ (controlTraits control .replies && ltb (length (now reply)) senseSize) ≡ false ⌝ }
-    requires { ⌜ length (now legends) ≡ 8192 ⌝ }
-    requires { ⌜ length (now tables) ≡ 1024 ⌝ }
-    ensures { λ r. ⌜ ((p : List ℕ) → left r (now (reply .exit)) (now (state .exit)) (storesOf p (now (legends .exit)) (now (tables .exit)))
-        ≡ leftBy (outcomeOf (senseAt (now (state .entry))) (now (reply .entry))
-        (doControl (coreAt (now (state .entry)) (storesOf p (now (legends .entry)) (now (tables .entry)))) control))) ⌝ }
-{
-    match control {
-        Control::NoOp => {
-            let step = state::decode(state).quietly();
-            step.answer
-        }
-        Control::SenseIo => put_sheet(state::decode(state).sense_io(reply), state),
-        Control::Initialize => initialize(state, legends, tables),
-        Control::Clear => put_sheet(state::decode(state).clear(), state),
-        Control::Block => put_all(state::decode(state).block(true), state),
-        Control::Allow => put_all(state::decode(state).block(false), state),
-        Control::Select(slot) => put_all(state::decode(state).select(slot), state),
-    }
-}
-
-// An accepted command. The state is decoded in each case for itself, so that none decodes a field that it does not ask for.
-fn perform(
-    form: Layout,
-    command: Command,
-    sent: &[u8],
-    reply: &mut [u8],
-    state: &mut [u8],
-    page: &mut [u8],
-    legends: &mut [u8],
-    tables: &mut [u8],
-) -> Answer
-    requires { ⌜ length (now state) ≡ 184 ⌝ }
-    requires { ⌜ readable (now state) ≡ true ⌝ }
-    requires { ⌜ form ≡ laidOut (stateAt (now state)) ⌝ }
-    requires { ⌜ firstOr Accepted (commandTests (coreAt (now state) (storesOf (now page) (now legends) (now tables))) command (now sent) (now reply))
-        ≡ Accepted ⌝ }
-    ensures { λ r. ⌜ left r (now (reply .exit)) (now (state .exit)) (storesOf (now (page .exit)) (now (legends .exit)) (now (tables .exit)))
-        ≡ leftBy (outcomeOf (senseAt (now (state .entry))) (now (reply .entry)) (doCommand
-        (coreAt (now (state .entry)) (storesOf (now (page .entry)) (now (legends .entry)) (now (tables .entry)))) command (now (sent .entry)))) ⌝ }
-{
-    match command {
-        Command::Write(motion) => write(form, motion, sent, state, page, tables),
-        Command::Move(motion) => move_on(form, motion, state),
-        Command::Controls(which) => control(which, reply, state, legends, tables),
-        Command::Loads(which) => load(which, sent, state, legends, tables),
-        Command::Unlisted => put_sheet(state::decode(state).refuse(Refusal::NotListed, 0), state),
-    }
-}
-
-pub fn command(
-    form: Layout,
-    byte: u8,
-    sent: &[u8],
-    reply: &mut [u8],
-    state: &mut [u8],
-    page: &mut [u8],
-    legends: &mut [u8],
-    tables: &mut [u8],
-) -> Answer
-    requires { ⌜ length (now state) ≡ 184 ⌝ }
-    requires { ⌜ soundBytes (now state) (storesOf (now page) (now legends) (now tables)) ≡ true ⌝ }
-    requires { ⌜ form ≡ laidOut (stateAt (now state)) ⌝ }
-    ensures { λ r. ⌜ left r (now (reply .exit)) (now (state .exit)) (storesOf (now (page .exit)) (now (legends .exit)) (now (tables .exit)))
-        ≡ leftBy (step (worldAt (now (state .entry)) (storesOf (now (page .entry)) (now (legends .entry)) (now (tables .entry))))
-        (command byte (now (sent .entry)) (now (reply .entry)))) ⌝ }
-{
-    let command = refusals::commands::decode(byte);
-    let length = state::form_length(state);
-    let sheet = state::sheet(state);
-    let refusal = refusals::order::command_refusal(length, sheet, command, sent, reply);
-    if refusal.is_accepted() {
-        return perform(form, command, sent, reply, state, page, legends, tables);
-    }
-    let count = refusals::commands::shown_count(sent.len());
-    put_sheet(state::decode(state).refuse(refusal, count), state)
-}
-
-// The copy with this index, from 1, of the page that waits.
-pub fn compose(
-    form: Layout,
-    copy: u32,
-    out: &mut [u8],
-    state: &[u8],
-    page: &[u8],
-    legends: &[u8],
-    tables: &[u8],
-) -> Answer
-    requires { ⌜ length (now state) ≡ 184 ⌝ }
-    requires { ⌜ soundBytes (now state) (storesOf (now page) (now legends) (now tables)) ≡ true ⌝ }
-    requires { ⌜ form ≡ laidOut (stateAt (now state)) ⌝ }
-    ensures { λ r. ⌜ (let m = storesOf (now (page .entry)) (now (legends .entry)) (now (tables .entry)) in
-        left r (now (out .exit)) (now (state .entry)) m ≡ leftBy (step (worldAt (now (state .entry)) m) (compose copy (now (out .entry))))) ⌝ }
-{
-    let p = state::decode(state);
-    let refusal = refusals::order::compose_refusal(
-        p.sheet.waiting,
-        &state[24..40],
-        p.pairs,
-        form,
-        copy,
-        out,
-    );
-    if refusal.is_accepted() {
-        let step = p.print_copy(form, copy as u16, out, &state[24..184], page, legends);
-        return step.answer;
-    }
-    let step = p.refuse(refusal, 0);
-    step.answer
-}
-
-// The page that waits is done with.
-pub fn release(state: &mut [u8], page: &mut [u8], legends: &mut [u8], tables: &mut [u8]) -> Answer
-    requires { ⌜ length (now state) ≡ 184 ⌝ }
-    requires { ⌜ soundBytes (now state) (storesOf (now page) (now legends) (now tables)) ≡ true ⌝ }
-    ensures { λ r. ⌜ left r [] (now (state .exit)) (storesOf (now (page .exit)) (now (legends .exit)) (now (tables .exit)))
-        ≡ leftBy (step (worldAt (now (state .entry)) (storesOf (now (page .entry)) (now (legends .entry)) (now (tables .entry)))) release) ⌝ }
-{
-    let p = state::decode(state);
-    let refusal = refusals::order::release_refusal(p.sheet.waiting);
-    if refusal.is_accepted() {
-        let step = p.empty_page(&mut state[24..184], page, legends, tables);
-        return put_all(step, state);
-    }
-    put_sheet(p.refuse(refusal, 0), state)
+    answer::pack(begin(form, p0, p1, p2, p3, state, page, legends, tables))
 }

@@ -20,7 +20,7 @@ use Rattle.calls.specs.Core.{Core, started}
 use Rattle.calls.specs.Commands.{Issued, issued}
 use Rattle.calls.specs.Contents.{coreOk}
 use Rattle.calls.specs.Calls.{badRecord, checkOf, movement, commandTests}
-use Rattle.calls.proofs.Answers.{one-page-only}
+use Rattle.calls.proofs.Refused.{one-page-only}
 use Rattle.refusals.specs.declared.commands.Kind.{Kind}
 use Rattle.refusals.specs.Kind.{KindOf}
 use borrow.Author.Needs.{needs}
