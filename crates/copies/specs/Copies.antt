@@ -12,7 +12,7 @@ use Rattle.numbers.specs.declared.Checked.{Checked}
 use Rattle.numbers.specs.declared.Checked.the-variants.{Sound, Faulty}
 use Rattle.copies.specs.declared.Copies.{Copies}
 
--- Load translate: a record that does not fill a slot is too short.
+-- Load translate: a record of fewer than 256 bytes is too short.
 unfoldable pub tableCheck : List ℕ → Checked
 tableCheck r = firstOr Sound (when (ltb (length r) slotSize) (Faulty TableShort) ∷ [])
 

@@ -41,7 +41,7 @@ pub fn text(legends: &[u8], at: usize) -> &[u8]
     &legends[start..end]
 }
 
-// Paints a text into the rows from `row` to `end`, in each from a place on, all counted from 0: what a segment of copy 0 alone shows.
+// Paints a text into the rows from `row` on and before `end`, in each from a place on, all counted from 0: what a segment of copy 0 alone shows.
 fn paint_rows(out: &mut [u8], text: &[u8], row: usize, end: usize, place: usize)
     requires { ⌜ lineBytes * end ≤ length (now out) ⌝ }
     requires { ⌜ place + length (now text) ≤ lineWidth ⌝ }
