@@ -81,13 +81,13 @@ not-given n k release nine other =
     number-not n _ BadStore _ nine
     (number-not n _ NoPage [] (inr (not-true _ (every-at 6 _ other))) (number-none n (not-true _ (every-at 0 _ other))))
 
-never-10 : (k : Core) (c : Call) → eqb (numberOf (refusalOf k c)) 10 ≡ false
-unfolding every
-never-10 k c = not-given 10 k c (inr refl) refl
-
 pub no-9 : (k : Core) (c : Call) → coreOk k ≡ true → eqb (numberOf (refusalOf k c)) 9 ≡ false
 unfolding every
 no-9 k c e = not-given 9 k c (inl (ap not e)) refl
+
+never-10 : (k : Core) (c : Call) → eqb (numberOf (refusalOf k c)) 10 ≡ false
+unfolding every
+never-10 k c = not-given 10 k c (inr refl) refl
 
 pub never-11 : (k : Core) (c : Call) → eqb (numberOf (refusalOf k c)) 11 ≡ false
 unfolding every
