@@ -67,13 +67,19 @@ moved-waits : (due : Bool) (s : Sheet) (m : Moved) → s .waiting ≡ false → 
 unfolding movedSheet
 moved-waits due s m e = cond-waits (eqb (m .pages) 0) _ _ e refl
 
-loaded-waits : (k : Core) (l : Load) (r : List ℕ) → loaded k l r .state .sheet .waiting ≡ k .state .sheet .waiting
+-- What no load touches.
+pub record Untouched (k k′ : Core) : Type 0 where
+  pub fixed : k′ .state .fixed ≡ k .state .fixed
+  pub waiting : k′ .state .sheet .waiting ≡ k .state .sheet .waiting
+  pub page : k′ .stores .page ≡ k .stores .page
+
+pub untouched : (k : Core) (l : Load) (r : List ℕ) → Untouched k (loaded k l r)
 unfolding loaded atLine1
-loaded-waits k Fcb r = refl
-loaded-waits k TranslateTable r = refl
-loaded-waits k CopyModification r = refl
-loaded-waits k OverlaySequence r = refl
-loaded-waits k CopyNumber r = refl
+untouched k Fcb r = record { fixed = refl; waiting = refl; page = refl }
+untouched k TranslateTable r = record { fixed = refl; waiting = refl; page = refl }
+untouched k CopyModification r = record { fixed = refl; waiting = refl; page = refl }
+untouched k OverlaySequence r = record { fixed = refl; waiting = refl; page = refl }
+untouched k CopyNumber r = record { fixed = refl; waiting = refl; page = refl }
 
 shape-completing : (k k′ : Core) (due t : Bool) (c : Control) → controlTraits c .completes ≡ true → controlTraits c .quiet ≡ false → (Free k → Free k′)
     → started (k .state .sheet) ≡ t → Shape k (Controls c) (completing k due k′)
@@ -92,7 +98,7 @@ shape k (Controls Clear) i e = shape-completing k k false (started (k .state .sh
 shape k (Controls Block) i e = sets _ _ refl (λ w. w) refl
 shape k (Controls Allow) i e = sets _ _ refl (λ w. w) refl
 shape k (Controls (Select n)) i e = sets _ _ refl (λ w. w) refl
-shape k (Loads l) i e = sets _ _ refl (λ w. loaded-waits k l (i .sent) ∙ w) refl
+shape k (Loads l) i e = sets _ _ refl (λ w. untouched k l (i .sent) .waiting ∙ w) refl
 shape k Unlisted i e = absurd (true≢false e)
 
 performed : (k : Core) (i : Issued) → isAccepted (refusalOf k (command i)) ≡ true → Shape k (decode (i .byte)) (doCommand k (decode (i .byte)) i)

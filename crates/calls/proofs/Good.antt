@@ -107,34 +107,22 @@ pub blank-good : (p l : ℕ) → 1 ≤ l → l ≤ p → SheetGood p (blankSheet
 unfolding blankSheet dueOk markOk
 blank-good p l a b = record { low = a; high = b; due = refl; mark = refl }
 
-start-copies : CopiesGood startCopies
-unfolding startCopies copiesInRange sequenceCheck pairsOf copiesOf every padded firstOr when
-start-copies = record { range = refl; sound = refl }
-
-start-slots : slotsInRange startSlots ≡ true
-unfolding startSlots slotsInRange every
-start-slots = refl
-
 pub no-cells : length noCells ≡ pageSize
 unfolding noCells
 no-cells = length-replicate {A = ℕ} pageSize 0
 
-no-legends : length noLegends ≡ legendSize
-unfolding noLegends
-no-legends = length-replicate {A = ℕ} legendSize 0
-
 -- A reset leaves such contents, and so do Start and a finished reset.
 module _ (f : Fixed) (blocked : Bool) (page : List ℕ) (e : FixedGood f) (size : length page ≡ pageSize) where
   pub reset-good : Good (record { state = resetState f blocked; stores = resetStores page })
-  unfolding resetState resetStores linesNow
+  unfolding resetState resetStores linesNow noLegends startSlots slotsInRange startCopies copiesInRange sequenceCheck pairsOf copiesOf every padded firstOr when
   reset-good =
       let l : listed formLengths (f .length) ≡ true = form-listed (f .length) (f .pitches) e in
       record {
-        sizes = record { page = size; legends = no-legends; tables = length-startTables };
+        sizes = record { page = size; legends = length-replicate {A = ℕ} legendSize 0; tables = length-startTables };
         fixed = e;
         forms = forms-good (f .length) (startFcb (f .length)) l (start-sound (f .length) l);
-        slots = start-slots;
-        copies = start-copies;
+        slots = refl;
+        copies = record { range = refl; sound = refl };
         sheet = blank-good _ 1 (lit≤ tt) (forms-line (f .length) (startFcb (f .length)) l (start-sound (f .length) l));
         legends = none-ok;
       }

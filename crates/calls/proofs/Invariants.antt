@@ -25,11 +25,11 @@ use Rattle.calls.specs.declared.Load.{Load}
 use Rattle.calls.specs.declared.Load.the-variants.{Fcb, TranslateTable, CopyModification, OverlaySequence, CopyNumber}
 use Rattle.calls.specs.Core.{Core, World, started, Stores}
 use Rattle.calls.specs.Reset.{blankSheet, noCells, resetState, resetStores, reset}
-use Rattle.calls.specs.Effects.{movedSheet, marked, written, loadCheck, atLine1, slotLoaded, slotSelected, loaded}
+use Rattle.calls.specs.Effects.{movedSheet, marked, written, loadCheck, slotLoaded, slotSelected, loaded}
 use Rattle.calls.specs.Calls.{Call, emptied, effect, step}
 use Rattle.calls.specs.Lists.{worldAfter}
 use Rattle.calls.specs.Premises.{FixedGood, Good, Sized}
-use Rattle.calls.proofs.Answers.{Free, names}
+use Rattle.calls.proofs.Answers.{Free, names, untouched}
 use Rattle.calls.proofs.Changes.{Unused, Changes, preserved, preserved-list}
 use Rattle.calls.proofs.Good.{good-write, good-move, good-complete, good-reset, good-block, good-select, good-load, good-empty, ok, start-good}
 use Rattle.numbers.specs.Numbers.{numberOf, isAccepted}
@@ -68,14 +68,6 @@ never-9 a m cs c e =
 abbrev pub Fixes : Fixed → Core → Type 0
 Fixes f k = k .state .fixed ≡ f
 
-load-fixes : (k : Core) (l : Load) (r : List ℕ) → loaded k l r .state .fixed ≡ k .state .fixed
-unfolding loaded
-load-fixes k Fcb r = refl
-load-fixes k TranslateTable r = refl
-load-fixes k CopyModification r = refl
-load-fixes k OverlaySequence r = refl
-load-fixes k CopyNumber r = refl
-
 fixes-changes : (f : Fixed) → Changes (Fixes f)
 unfolding written reset resetState emptied
 fixes-changes f =
@@ -86,7 +78,7 @@ fixes-changes f =
       reset = λ g f u q. q;
       block = λ b g q. q;
       select = λ n g h q. q;
-      load = λ {k} l r g u e h q. load-fixes k l r ∙ q;
+      load = λ {k} l r g u e h q. untouched k l r .fixed ∙ q;
       empty = λ g q. q;
     }
 
@@ -165,14 +157,6 @@ blank-reset k f (inl u) h w′ u′ = h f u
 blank-reset k f (inr e) h w′ u′ = e
 
 -- A load comes to a page that is not started.
-blank-load : (k : Core) (l : Load) (r : List ℕ) → started (k .state .sheet) ≡ false → Blank k → Blank (loaded k l r)
-unfolding loaded atLine1
-blank-load k Fcb r u h = λ w u′. h w u
-blank-load k TranslateTable r u h = h
-blank-load k CopyModification r u h = h
-blank-load k OverlaySequence r u h = h
-blank-load k CopyNumber r u h = h
-
 blank-changes : Changes Blank
 unfolding written movedSheet toTop emptied
 blank-changes =
@@ -183,7 +167,7 @@ blank-changes =
       reset = λ {k} g f u q. blank-reset k f u q;
       block = λ b g q. q;
       select = λ n g h q. q;
-      load = λ {k} l r g u e h q. blank-load k l r u q;
+      load = λ {k} l r g u e h q w u′. untouched k l r .page ∙ q (sym (untouched k l r .waiting) ∙ w) u;
       empty = λ g q w u. refl;
     }
 
