@@ -75,19 +75,8 @@ good k e =
 pub ok : (k : Core) → Good k → coreOk k ≡ true
 unfolding coreOk rangesOk every isSound
 ok k g =
-    rw (
-      sizes-ok (k .stores) (g .sizes),
-      g .fixed,
-      g .forms .range,
-      g .slots,
-      g .copies .range,
-      line-ok (P (k .state)) (k .state .sheet) (g .sheet .low) (g .sheet .high),
-      g .sheet .due,
-      g .sheet .mark,
-      g .forms .sound,
-      g .copies .sound,
-      g .legends,
-    )
+    let x = g .sheet in
+    rw (sizes-ok _ (g .sizes), g .fixed, g .forms .range, g .slots, g .copies .range, line-ok _ (k .state .sheet) (x .low) (x .high), x .due, x .mark, g .forms .sound, g .copies .sound, g .legends)
 
 -- Forms control that its load takes is kept as it was sent, and has a line 1.
 pub forms-now : (r : List ℕ) → fcbNow (formsOf r) ≡ r

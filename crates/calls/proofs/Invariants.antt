@@ -137,10 +137,6 @@ Blank k = BlankSheet (k .state .sheet) (k .stores .page)
 
 -- A write marks the page as started. A movement that goes nowhere leaves the sheet; one that goes down the form leaves line 1; one that goes over P
 -- leaves a page waiting.
-marked-started : (s : Sheet) → started (marked s) ≡ true
-unfolding started marked
-marked-started s = or-true (not (eqb (s .line) 1))
-
 blank-moved : (s : Sheet) (m : Moved) (page : List ℕ) (p : ℕ) → 1 ≤ s .line → Went p (s .line) m → BlankSheet s page → BlankSheet (movedSheet false s m) page
 unfolding movedSheet started
 blank-moved s m page p l (stays n e c) h w u =
@@ -158,10 +154,10 @@ blank-reset k f (inr e) h w′ u′ = e
 
 -- A load comes to a page that is not started.
 blank-changes : Changes Blank
-unfolding written movedSheet toTop emptied
+unfolding written marked started movedSheet toTop emptied
 blank-changes =
     record {
-      write = λ {k} r g f h q w u. absurd (true≢false (sym (marked-started (k .state .sheet)) ∙ u));
+      write = λ {k} r g f h q w u. absurd (true≢false (sym (or-true (not (eqb (k .state .sheet .line) 1))) ∙ u));
       move = λ {k} m g f h q. blank-moved (k .state .sheet) m (k .stores .page) _ (g .sheet .low) h q;
       complete = λ due g f q w u. absurd (true≢false w);
       reset = λ {k} g f u q. blank-reset k f u q;
