@@ -151,7 +151,7 @@ lines-of-others k (command i) e = absurd (true≢false e)
 lines-of-others k (compose n out) e = by-outcome (λ (x : Effect). x .answer .lines ≡ 0) k (compose n out) (λ a. refl) (λ a. refl)
 lines-of-others k release e = by-outcome (λ (x : Effect). x .answer .lines ≡ 0) k release (λ a. refl) (λ a. refl)
 
--- Copy number and overlay mark are 0 in every answer but that of an accepted Compose.
+-- Copy number and overlay mark are 0 in every answer except that of an accepted Compose.
 abbrev NoCopy : Effect → Type 0
 NoCopy e = (e .answer .copy ≡ 0) × (e .answer .mark ≡ 0)
 
@@ -166,7 +166,7 @@ no-copy k (command i) e = by-outcome NoCopy k (command i) (λ a. copy-shape (per
 no-copy k (compose n out) e = by-outcome NoCopy k (compose n out) (λ a. absurd (true≢false (sym a ∙ e))) (λ a. (refl, refl))
 no-copy k release e = by-outcome NoCopy k release (λ a. (refl, refl)) (λ a. (refl, refl))
 
--- Accepted commands but No-Op and Sense set the sense anew.
+-- Accepted commands except No-Op and Sense set the sense anew.
 anew-shape : {k : Core} {c : Command} {e : Effect} → Shape k c e → traitsOf c .quiet ≡ false → isAnew (e .sense) ≡ true
 unfolding done
 anew-shape (sets k′ x q w e) n = rw e

@@ -152,7 +152,7 @@ unfolding reset resetState resetStores blankSheet
 blank-reset k f (inl u) h w′ u′ = h f u
 blank-reset k f (inr e) h w′ u′ = e
 
--- A load comes to a page that is not started.
+-- A completed page waits; a load comes to a page that is not started.
 blank-changes : Changes Blank
 unfolding written marked started movedSheet toTop emptied
 blank-changes =

@@ -20,7 +20,7 @@ length-senseBytes s n = refl
 abbrev senseIo : List ℕ → List ℕ → Call
 senseIo r reply = command (issued 0x04 r reply)
 
--- Bytes 3 to 21, and those after the reply: all but bytes 0, 1, 2, 22 and 23.
+-- Bytes 3 to 21, and those after the reply: all except bytes 0, 1, 2, 22 and 23.
 abbrev middle : List ℕ → List ℕ
 middle l = take 19 (drop 3 l)
 

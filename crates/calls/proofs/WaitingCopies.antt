@@ -43,7 +43,7 @@ pub compose-gives : (w : World) (n : ℕ) (out : List ℕ) → isAccepted (refus
 unfolding step perform doCompose copyAt
 compose-gives w n out e = rw (accepted-effect (w .core) (compose n out) e)
 
--- While a page waits nothing but its Release counts, so that its copies stay.
+-- While a page waits only its Release counts, so that its copies stay.
 pub page-stays : (k : Core) (c : Call) → k .state .sheet .waiting ≡ true → counts k c ≡ true → c ≡ release
 unfolding counts
 page-stays k (command i) w e =

@@ -1,5 +1,5 @@
--- What is known of contents that get no 9, and of a call that nothing refuses, each fact by its name. Contracts ask for these; the laws that give them
--- are in proofs/Good and proofs/Accepted.
+-- What is known of contents that get no 9, of a state's arrays, and of a call that nothing refuses, each fact by its name. Contracts ask for these; the laws
+-- that give them are in proofs/Good, proofs/Invariants and proofs/Accepted.
 use Prim.Native.Nat.{ℕ, _*_, _≤_}
 use mathlib.Core.Path.{_≡_}
 use mathlib.Core.Bool.{true, false, not, _&&_}
