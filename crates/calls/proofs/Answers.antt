@@ -27,6 +27,7 @@ use Rattle.calls.specs.declared.Load.the-variants.{Fcb, TranslateTable, 
 use Rattle.calls.specs.Reset.{blankSheet, resetState, reset}
 use Rattle.calls.specs.Effects.{Effect, nothing, refused, done, movedSheet, moveOf, standing, movedCore, marked, written, loaded, atLine1, quietly, doMove, doWrite, doLoad, completing, doControl, doCommand}
 use Rattle.calls.specs.Calls.{Call, command, compose, release, movement, refusalOf, doCompose, doRelease, emptied, released, perform, effect, step}
+use Rattle.calls.specs.Premises.{Free}
 use Rattle.calls.proofs.Accepted.{allowed}
 use Rattle.calls.proofs.Refused.{accepted-effect, by-outcome}
 
@@ -47,10 +48,7 @@ isCompose (command i) = false
 isCompose (compose n out) = true
 isCompose release = false
 
--- No page waits; and after a command one waits exactly if it completed one.
-abbrev pub Free : Core → Type 0
-Free k = k .state .sheet .waiting ≡ false
-
+-- After a command that found no page waiting, one waits exactly if it completed one.
 abbrev Waits : Core → Moved → Core → Type 0
 Waits k m k′ = Free k → k′ .state .sheet .waiting ≡ not (eqb (m .pages) 0)
 
@@ -199,15 +197,15 @@ unfolding done
 ready-shape {k} (sets k′ x q w h) f = let free = was-free q f in rw h (now-waits (k .state .sheet .waiting) _ _ free (w free))
 ready-shape {k} (quiet s f q m h) e = rw h (not-both (k .state .sheet .waiting))
 
-pub released-waits : (k : Core) → released k .state .sheet .waiting ≡ false
+pub released-free : (k : Core) → Free (released k)
 unfolding released emptied reset resetState blankSheet
-released-waits k = cond-has (λ (x : Core). x .state .sheet .waiting ≡ false) (k .state .sheet .due) (λ t. refl) (λ t. refl)
+released-free k = cond-has Free (k .state .sheet .due) (λ t. refl) (λ t. refl)
 
 ready-perform : (k : Core) (c : Call) → isAccepted (refusalOf k c) ≡ true → ReadyHolds k (perform k c)
 unfolding perform doCompose doRelease
 ready-perform k (command i) e = ready-shape (performed k i e) (allowed k i e .free)
 ready-perform k (compose n out) e = not-both (k .state .sheet .waiting)
-ready-perform k release e = rw (released-waits k) (sym (and-false (not (k .state .sheet .waiting))))
+ready-perform k release e = rw (released-free k) (sym (and-false (not (k .state .sheet .waiting))))
 
 pub ready-exactly : (k : Core) (c : Call) → ReadyHolds k (effect k c)
 unfolding refused

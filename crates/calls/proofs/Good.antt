@@ -25,7 +25,7 @@ use Rattle.calls.specs.declared.Fixed.{Fixed}
 use Rattle.calls.specs.declared.Sheet.{Sheet}
 use Rattle.calls.specs.declared.State.{State}
 use Rattle.calls.specs.Core.{Stores, Core, sizesOk, linesNow, P, laidOut, withState, withPage, withTables, withBlocked, withSlots, withCopies, withSheet}
-use Rattle.calls.specs.Premises.{Sizes, FormsGood, CopiesGood, SheetGood, FixedGood, Good}
+use Rattle.calls.specs.Premises.{Sizes, FormsGood, CopiesGood, SheetGood, FixedGood, Good, Free}
 use Rattle.calls.specs.Contents.{lineOk, rangesOk, dueOk, markOk, coreOk}
 use Rattle.calls.specs.Reset.{blankSheet, noCells, resetState, resetStores, reset, fresh}
 use native.Mathlib.Omega.{arith}
@@ -148,7 +148,7 @@ unfolding linesNow
 with-copies c g h = search
 
 -- A write, and a movement, while no page waits.
-pub good-write : {k : Core} (r : List ℕ) → Good k → k .state .sheet .waiting ≡ false → length r ≤ lineWidth → Good (written k r)
+pub good-write : {k : Core} (r : List ℕ) → Good k → Free k → length r ≤ lineWidth → Good (written k r)
 unfolding written marked markOk dueOk
 good-write {k} r g w h =
     let s = g .sheet in
@@ -166,7 +166,7 @@ went-on a b (stays l n e) = (omega arith, omega arith)
 went-on a b (goes l (down f h i)) = (omega arith, i)
 went-on a b (goes l (over f h i)) = (h, i)
 
-moved-good : {k : Core} (due : Bool) (m : Moved) → Good k → k .state .sheet .waiting ≡ false → (1 ≤ m .line) × (m .line ≤ P (k .state)) → Good (movedCore due k m)
+moved-good : {k : Core} (due : Bool) (m : Moved) → Good k → Free k → (1 ≤ m .line) × (m .line ≤ P (k .state)) → Good (movedCore due k m)
 unfolding movedSheet dueOk markOk
 moved-good {k} due m g w h =
     let s = k .state .sheet in
@@ -176,11 +176,11 @@ moved-good {k} due m g w h =
     (λ t. record { low = h .0; high = h .1; due = or-true (not due); mark = refl }))
     (g .sizes .page)
 
-pub good-move : {k : Core} (m : Moved) → Good k → k .state .sheet .waiting ≡ false → Went (P (k .state)) (k .state .sheet .line) m → Good (movedCore false k m)
+pub good-move : {k : Core} (m : Moved) → Good k → Free k → Went (P (k .state)) (k .state .sheet .line) m → Good (movedCore false k m)
 good-move m g w h = moved-good false m g w (went-on (g .sheet .low) (g .sheet .high) h)
 
 -- A page completed by Clear or Initialize; the reset; a page released.
-pub good-complete : {k : Core} (due : Bool) → Good k → k .state .sheet .waiting ≡ false → Good (movedCore due k toTop)
+pub good-complete : {k : Core} (due : Bool) → Good k → Free k → Good (movedCore due k toTop)
 unfolding toTop
 good-complete due g w = moved-good due toTop g w (lit≤ tt, omega (arith, g .sheet .low, g .sheet .high))
 

@@ -28,8 +28,8 @@ use Rattle.calls.specs.Reset.{blankSheet, noCells, resetState, resetStor
 use Rattle.calls.specs.Effects.{movedSheet, marked, written, loadCheck, slotLoaded, slotSelected, loaded}
 use Rattle.calls.specs.Calls.{Call, emptied, effect, step}
 use Rattle.calls.specs.Lists.{worldAfter}
-use Rattle.calls.specs.Premises.{FixedGood, Good, Sized}
-use Rattle.calls.proofs.Answers.{Free, names, untouched}
+use Rattle.calls.specs.Premises.{FixedGood, Good, Sized, Free}
+use Rattle.calls.proofs.Answers.{names, untouched}
 use Rattle.calls.proofs.Changes.{Unused, Changes, preserved, preserved-list}
 use Rattle.calls.proofs.Good.{good-write, good-move, good-complete, good-reset, good-block, good-select, good-load, good-empty, ok, start-good}
 use Rattle.numbers.specs.Numbers.{numberOf, isAccepted}

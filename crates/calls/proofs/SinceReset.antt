@@ -18,6 +18,7 @@ use Rattle.calls.specs.Reset.{blankSheet, noCells, resetState, resetStor
 use Rattle.calls.specs.Effects.{Effect, refused, done, completing, doControl, doCommand}
 use Rattle.calls.specs.Calls.{Call, command, compose, release, commandTests, checkOf, refusalOf, doCompose, emptied, released, doRelease, perform, effect, step}
 use Rattle.calls.specs.Lists.{worldAfter, counts, Deed, commanded, wasReleased, readOf, deedOf, finishesReset, Given, given, gives, Since, sinceNow, note, sinceOver, sinceReset}
+use Rattle.calls.specs.Premises.{Free}
 use Rattle.calls.proofs.Accepted.{allowed}
 use Rattle.calls.proofs.Refused.{accepted-effect, by-outcome}
 use Rattle.calls.proofs.Answers.{Shape, sets, quiet, shape, was-free}
@@ -119,7 +120,7 @@ finished k (command i) h e =
     let a : isAccepted (refusalOf k (command i)) ≡ true = every-at 0 _ (every-at 0 _ e) in
     let q : traitsOf (decode (i .byte)) .quiet ≡ false = not-true _ (every-at 1 _ (every-at 0 _ e)) in
     let u : started (k .state .sheet) ≡ false = not-true _ (every-at 2 _ e) in
-    let w : k .state .sheet .waiting ≡ false = was-free q (allowed k i a .free) in
+    let w : Free k = was-free q (allowed k i a .free) in
     ap (λ (x : Effect). x .core) (accepted-effect k (command i) a)
     ∙ ap (λ (c : Command). doCommand k c i .core) (is-initialize (decode (i .byte)) (every-at 1 _ e))
     ∙ initialized k i u (h w u)
@@ -127,9 +128,9 @@ finished k (compose n out) h e = absurd (false≢true e)
 finished k release h e = ap (λ (x : Effect). x .core) (accepted-effect k release (every-at 0 _ e)) ∙ released-due k (every-at 1 _ e)
 
 -- after which no page waits
-pub finished-waits : (k : Core) (c : Call) → Blank k → finishesReset k c ≡ true → effect k c .core .state .sheet .waiting ≡ false
+pub finished-free : (k : Core) (c : Call) → Blank k → finishesReset k c ≡ true → Free (effect k c .core)
 unfolding fresh resetState blankSheet
-finished-waits k c h e = ap (λ (x : Core). x .state .sheet .waiting) (finished k c h e)
+finished-free k c h e = ap (λ (x : Core). x .state .sheet .waiting) (finished k c h e)
 
 -- Deeds done again, and what they give.
 pub redo : Core → List Deed → Core

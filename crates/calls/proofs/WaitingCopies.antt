@@ -18,11 +18,12 @@ use Rattle.calls.specs.Commands.{decode, traitsOf}
 use Rattle.calls.specs.Reset.{blankSheet, resetState, resetStores, fresh}
 use Rattle.calls.specs.Calls.{Call, command, compose, release, refusalOf, doCompose, doRelease, perform, effect, over, step, Copy, copyAt}
 use Rattle.calls.specs.Lists.{worldAfter, counts, finishesReset, copiesOfPage, Given, given, gives, Since, sinceNow, note, sinceOver, sinceReset}
+use Rattle.calls.specs.Premises.{Free}
 use Rattle.calls.proofs.Accepted.{allowed}
 use Rattle.calls.proofs.Refused.{accepted-effect}
-use Rattle.calls.proofs.Answers.{ready-exactly, was-free, released-waits}
+use Rattle.calls.proofs.Answers.{ready-exactly, was-free, released-free}
 use Rattle.calls.proofs.Invariants.{Blank, blank-call}
-use Rattle.calls.proofs.SinceReset.{idle-core, finished-waits}
+use Rattle.calls.proofs.SinceReset.{idle-core, finished-free}
 
 -- What `gives` lists is what the calls, made one after the other, answer and leave.
 pub gives-steps : (w : World) (c : Call) (cs : List Call)
@@ -62,9 +63,9 @@ last-one : (d : Given) (l : List Given) (x : Given) → lastOr d (l ++ (x ∷ []
 last-one d [] x = refl
 last-one d (y ∷ l) x = last-one y l x
 
-after-release : (k : Core) (c : Call) → c ≡ release → counts k c ≡ true → effect k c .core .state .sheet .waiting ≡ false
+after-release : (k : Core) (c : Call) → c ≡ release → counts k c ≡ true → Free (effect k c .core)
 unfolding counts perform doRelease
-after-release k c e a = rw e (rw (accepted-effect k release (rw e at a)) (released-waits k))
+after-release k c e a = rw e (rw (accepted-effect k release (rw e at a)) (released-free k))
 
 given-page : (k : Core) (c : Call) → effect k c .answer .ready ≡ true → given k c .page ≡ copiesOfPage (effect k c .core)
 unfolding given
@@ -75,7 +76,7 @@ unfolding note
 shown-note k s c z h = go (finishesReset k c) refl (counts k c) refl (k .state .sheet .waiting) refl
   where
     go : (p : Bool) → finishesReset k c ≡ p → (q : Bool) → counts k c ≡ q → (w : Bool) → k .state .sheet .waiting ≡ w → Shown (effect k c .core) (note k s c)
-    go true ep q eq w ew v = absurd (false≢true (sym (finished-waits k c z ep) ∙ v))
+    go true ep q eq w ew v = absurd (false≢true (sym (finished-free k c z ep) ∙ v))
     go false ep true eq true ew v = absurd (false≢true (sym (after-release k c (page-stays k c ew eq) eq) ∙ v))
     go false ep true eq false ew v =
         let r : effect k c .answer .ready ≡ true = ready-exactly k c ∙ ap (λ (x : Bool). not x && effect k c .core .state .sheet .waiting) ew ∙ v in

@@ -56,6 +56,10 @@ pub record Good (k : Core) : Type 0 where
   pub sheet : SheetGood (P (k .state)) (k .state .sheet)
   pub legends : legendsOk (k .stores .legends) ≡ true
 
+-- No page waits.
+abbrev pub Free : Core → Type 0
+Free k = k .state .sheet .waiting ≡ false
+
 -- The arrays of a state are as long as their types say.
 pub record Sized (s : State) : Type 0 where
   pub pitches : length (s .fixed .pitches) ≡ 4
