@@ -16,14 +16,14 @@ use Rattle.movement.specs.Movement.{still, toTop}
 use Rattle.line.specs.declared.Causes.{Causes}
 use Rattle.line.specs.Line.{noCauses}
 use Rattle.calls.specs.declared.Sheet.{Sheet}
-use Rattle.calls.specs.declared.Command.{Command}
-use Rattle.calls.specs.declared.Command.the-variants.{Write, Move, Controls, Loads, Unlisted}
-use Rattle.calls.specs.declared.Control.{Control}
-use Rattle.calls.specs.declared.Control.the-variants.{NoOp, SenseIo, Initialize, Clear, Block, Allow, Select}
-use Rattle.calls.specs.Core.{Core, World, started}
-use Rattle.calls.specs.Commands.{Issued, decode, controlTraits, traitsOf, isUnlisted}
 use Rattle.calls.specs.declared.Load.{Load}
 use Rattle.calls.specs.declared.Load.the-variants.{Fcb, TranslateTable, CopyModification, OverlaySequence, CopyNumber}
+use Rattle.calls.specs.declared.Control.{Control}
+use Rattle.calls.specs.declared.Control.the-variants.{NoOp, SenseIo, Initialize, Clear, Block, Allow, Select}
+use Rattle.calls.specs.declared.Command.{Command}
+use Rattle.calls.specs.declared.Command.the-variants.{Write, Move, Controls, Loads, Unlisted}
+use Rattle.calls.specs.Core.{Core, World, started}
+use Rattle.calls.specs.Commands.{Issued, decode, controlTraits, traitsOf, isUnlisted}
 use Rattle.calls.specs.Reset.{blankSheet, resetState, reset}
 use Rattle.calls.specs.Effects.{Effect, nothing, refused, done, movedSheet, moveOf, standing, movedCore, marked, written, loaded, atLine1, quietly, doMove, doWrite, doLoad, completing, doControl, doCommand}
 use Rattle.calls.specs.Calls.{Call, command, compose, release, movement, refusalOf, doCompose, doRelease, emptied, released, perform, effect, step}

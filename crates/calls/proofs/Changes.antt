@@ -26,8 +26,8 @@ use Rattle.calls.specs.Contents.{coreOk}
 use Rattle.calls.specs.Reset.{blankSheet, noCells, reset}
 use Rattle.calls.specs.Effects.{Effect, refused, done, movedCore, moveOf, doMove, marked, written, doWrite, loadCheck, slotSelected, loaded, doLoad, completing, doControl, doCommand}
 use Rattle.calls.specs.Calls.{Call, command, compose, release, checkOf, refusalOf, doCompose, emptied, released, doRelease, perform, effect, step}
-use Rattle.calls.specs.Lists.{worldAfter}
 use Rattle.calls.specs.Premises.{Good, Allowed, Free}
+use Rattle.calls.specs.Lists.{worldAfter}
 use Rattle.calls.proofs.Accepted.{allowed}
 use Rattle.calls.proofs.Refused.{bad-store, by-outcome}
 use Rattle.calls.proofs.Answers.{was-free}

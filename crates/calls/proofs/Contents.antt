@@ -110,11 +110,11 @@ unfolding coreOk sizesOk
 any-tables k t e = rw e
 
 -- Start: 9 by sizes alone, then 10, on the numbers as they were passed.
-abbrev sized : ℕ → ℕ → ℕ → Stores
-sized a b c = record { page = replicate a 1; legends = replicate b 1; tables = replicate c 1 }
+abbrev ones : ℕ → ℕ → ℕ → Stores
+ones a b c = record { page = replicate a 1; legends = replicate b 1; tables = replicate c 1 }
 
 abbrev right : Stores
-right = sized pageSize legendSize tableSize
+right = ones pageSize legendSize tableSize
 
 abbrev starts : ℕ → List ℕ → Stores → ℕ
 starts len ps m = numberOf (startRefusal (asked len ps) m)
@@ -123,7 +123,7 @@ pub start-table :
     (starts 84 (10 ∷ 0 ∷ 12 ∷ 15 ∷ []) right ∷ starts 288 (15 ∷ 0 ∷ 0 ∷ 0 ∷ []) right
     ∷ starts 85 (10 ∷ 0 ∷ 12 ∷ 15 ∷ []) right ∷ starts 65620 (10 ∷ 0 ∷ 12 ∷ 15 ∷ []) right
     ∷ starts 84 (0 ∷ 10 ∷ 12 ∷ 15 ∷ []) right ∷ starts 84 (10 ∷ 11 ∷ 12 ∷ 15 ∷ []) right ∷ starts 84 (10 ∷ 0 ∷ 12 ∷ 271 ∷ []) right
-    ∷ starts 85 (10 ∷ 0 ∷ 12 ∷ 15 ∷ []) (sized (pageSize - 1) legendSize tableSize) ∷ starts 84 (10 ∷ 0 ∷ 12 ∷ 15 ∷ []) (sized pageSize (legendSize + 1) tableSize) ∷ starts 84 (10 ∷ 0 ∷ 12 ∷ 15 ∷ []) (sized pageSize legendSize 0)
+    ∷ starts 85 (10 ∷ 0 ∷ 12 ∷ 15 ∷ []) (ones (pageSize - 1) legendSize tableSize) ∷ starts 84 (10 ∷ 0 ∷ 12 ∷ 15 ∷ []) (ones pageSize (legendSize + 1) tableSize) ∷ starts 84 (10 ∷ 0 ∷ 12 ∷ 15 ∷ []) (ones pageSize legendSize 0)
     ∷ [])
     ≡ 0 ∷ 0 ∷ 10 ∷ 10 ∷ 10 ∷ 10 ∷ 10 ∷ 9 ∷ 9 ∷ 9 ∷ []
 unfolding startRefusal when firstOr every sizesOk formLengths pitchesListed pitchesOk formOk rowOf

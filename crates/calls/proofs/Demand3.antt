@@ -12,8 +12,8 @@ use Rattle.calls.specs.Effects.{Effect, refused}
 use Rattle.calls.specs.Calls.{Call, compose, doCompose, perform, effect, over, step}
 use Rattle.calls.specs.Start.{Asked, fixedBy, startRefusal, startWorld, startOutcome}
 use Rattle.calls.specs.Lists.{worldAfter, gives, sinceReset}
-use Rattle.calls.proofs.Refused.{by-outcome}
 use Rattle.calls.proofs.Accepted.{started-world}
+use Rattle.calls.proofs.Refused.{by-outcome}
 use Rattle.calls.proofs.SinceReset.{tracked}
 
 -- The sense has no part in what calls leave, nor in what Compose writes.

@@ -4,8 +4,10 @@ use Prim.Native.Nat.{ℕ, _≤_, zero, suc}
 use mathlib.Core.Path.{_≡_, refl, ap, _∙_}
 use mathlib.Core.Bool.{Bool, true, false, not, _&&_, and-false, or-true}
 use mathlib.Core.List.{List, [], _∷_}
+use native.Mathlib.Omega.{arith}
 use lib.ListN.{length, length-replicate, getD, set, take}
 use lib.Dec.{lit≤, eqb}
+use lib.Seq.{length-take-le}
 use borrow.Author.Tests.{eqb-true, eq-eqb, leb-true, le-leb}
 use Rattle.seq.specs.Words.{every, when, firstOr, listed, padded}
 use Rattle.seq.proofs.Laws.{every-at, padded-take, padded-zero, cond-has, finally, also, every-of}
@@ -16,32 +18,30 @@ use Rattle.numbers.proofs.Laws.{sound-is}
 use Rattle.form.specs.declared.Layout.{Layout}
 use Rattle.form.specs.Form.{formLengths, fcbCheck, layoutOf, printable, startFcb, fcbSize, fcbNow, formsOf, formsInRange}
 use Rattle.form.proofs.FormLaws.{form-listed, fcb-fits, few-lines, some-line, start-sound}
-use Rattle.line.specs.Line.{startSlots, slotsInRange, serving, translated}
-use Rattle.line.proofs.LineLaws.{length-startTables, length-translated, length-lineCells, length-pageWritten, length-putSlot}
-use Rattle.copies.specs.Copies.{pairsOf, copiesOf, sequenceCheck, startCopies, copiesInRange, pairSize, numberCheck, withSequence, withReference}
-use Rattle.legends.specs.Legends.{noLegends}
-use Rattle.legends.proofs.LegendLaws.{none-ok, stored-size, stored-ok}
-use Rattle.calls.specs.declared.Fixed.{Fixed}
-use Rattle.calls.specs.declared.Sheet.{Sheet}
-use Rattle.calls.specs.declared.State.{State}
-use Rattle.calls.specs.Core.{Stores, Core, sizesOk, linesNow, P, laidOut, withState, withPage, withTables, withBlocked, withSlots, withCopies, withSheet}
-use Rattle.calls.specs.Premises.{Sizes, FormsGood, CopiesGood, SheetGood, FixedGood, Good, Free}
-use Rattle.calls.specs.Contents.{lineOk, rangesOk, dueOk, markOk, coreOk}
-use Rattle.calls.specs.Reset.{blankSheet, noCells, resetState, resetStores, reset, fresh}
-use native.Mathlib.Omega.{arith}
-use lib.Seq.{length-take-le}
 use Rattle.movement.specs.declared.Motion.{Motion}
 use Rattle.movement.specs.declared.Moved.{Moved}
 use Rattle.movement.specs.Movement.{toTop}
 use Rattle.movement.proofs.MovementLaws.{down, over, Went, stays, goes, went}
 use Rattle.line.specs.declared.Slots.{Slots}
+use Rattle.line.specs.Line.{startSlots, slotsInRange, serving, translated}
+use Rattle.line.proofs.LineLaws.{length-startTables, length-translated, length-lineCells, length-pageWritten, length-putSlot}
 use Rattle.copies.specs.declared.Copies.{Copies}
+use Rattle.copies.specs.Copies.{pairsOf, copiesOf, sequenceCheck, startCopies, copiesInRange, pairSize, numberCheck, withSequence, withReference}
 use Rattle.copies.proofs.CopiesLaws.{table-long, sequence-fits, number-some}
+use Rattle.legends.specs.Legends.{noLegends}
+use Rattle.legends.proofs.LegendLaws.{none-ok, stored-size, stored-ok}
+use Rattle.calls.specs.declared.Fixed.{Fixed}
+use Rattle.calls.specs.declared.Sheet.{Sheet}
+use Rattle.calls.specs.declared.State.{State}
 use Rattle.calls.specs.declared.Load.{Load}
 use Rattle.calls.specs.declared.Load.the-variants.{Fcb, TranslateTable, CopyModification, OverlaySequence, CopyNumber}
+use Rattle.calls.specs.Core.{Stores, Core, sizesOk, linesNow, P, laidOut, withState, withPage, withTables, withBlocked, withSlots, withCopies, withSheet}
+use Rattle.calls.specs.Contents.{lineOk, rangesOk, dueOk, markOk, coreOk}
+use Rattle.calls.specs.Reset.{blankSheet, noCells, resetState, resetStores, reset, fresh}
 use Rattle.calls.specs.Effects.{movedSheet, movedCore, moveOf, marked, written, loadCheck, atLine1, slotLoaded, slotSelected, loaded}
 use Rattle.calls.specs.Calls.{emptied}
 use Rattle.calls.specs.Start.{Asked, fixedBy, startRefusal, startWorld}
+use Rattle.calls.specs.Premises.{Sizes, FormsGood, CopiesGood, SheetGood, FixedGood, Good, Free}
 use Rattle.calls.proofs.Accepted.{startable}
 
 -- They are just the contents that get no 9.

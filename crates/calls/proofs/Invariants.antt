@@ -11,6 +11,7 @@ use lib.Dec.{eqb, lit≤}
 use borrow.Author.Tests.{eqb-true, not-false}
 use Rattle.seq.proofs.Laws.{or-left, length-padded}
 use Rattle.numbers.specs.declared.Checked.the-variants.{Sound}
+use Rattle.numbers.specs.Numbers.{numberOf, isAccepted}
 use Rattle.form.specs.Form.{startFcb, fcbSize, formsOf}
 use Rattle.form.proofs.FormLaws.{form-listed, fcb-fits, start-sound}
 use Rattle.movement.specs.declared.Moved.{Moved}
@@ -27,15 +28,14 @@ use Rattle.calls.specs.Core.{Core, World, started, Stores}
 use Rattle.calls.specs.Reset.{blankSheet, noCells, resetState, resetStores, reset}
 use Rattle.calls.specs.Effects.{movedSheet, marked, written, loadCheck, slotLoaded, slotSelected, loaded}
 use Rattle.calls.specs.Calls.{Call, emptied, effect, step}
-use Rattle.calls.specs.Lists.{worldAfter}
-use Rattle.calls.specs.Premises.{FixedGood, Good, Sized, Free}
-use Rattle.calls.proofs.Answers.{names, untouched}
-use Rattle.calls.proofs.Changes.{Unused, Changes, preserved, preserved-list}
-use Rattle.calls.proofs.Good.{good-write, good-move, good-complete, good-reset, good-block, good-select, good-load, good-empty, ok, start-good}
-use Rattle.numbers.specs.Numbers.{numberOf, isAccepted}
 use Rattle.calls.specs.Start.{Asked, startRefusal, startWorld, startOutcome}
+use Rattle.calls.specs.Premises.{FixedGood, Good, Sized, Free}
+use Rattle.calls.specs.Lists.{worldAfter}
 use Rattle.calls.proofs.Accepted.{started-world}
 use Rattle.calls.proofs.Refused.{no-9}
+use Rattle.calls.proofs.Answers.{names, untouched}
+use Rattle.calls.proofs.Good.{good-write, good-move, good-complete, good-reset, good-block, good-select, good-load, good-empty, ok, start-good}
+use Rattle.calls.proofs.Changes.{Unused, Changes, preserved, preserved-list}
 
 -- Contents that a printer can have.
 good-changes : Changes Good

@@ -1,9 +1,9 @@
 -- Demand 3, the ground: after a finished reset a printer is a function of what Start fixed and the switch, and each later one is what the deeds since
 -- then, done again on it, leave.
-use borrow.Author.Tests.{not-true}
 use mathlib.Core.Path.{_≡_, refl, sym, ap, _∙_}
 use mathlib.Core.Bool.{Bool, true, false, not, true≢false, false≢true}
 use mathlib.Core.List.{List, [], _∷_, _++_, map}
+use borrow.Author.Tests.{not-true}
 use Rattle.seq.specs.Words.{every, firstOr}
 use Rattle.seq.proofs.Laws.{every-at}
 use Rattle.numbers.specs.declared.Refusal.the-variants.{Accepted}
@@ -17,8 +17,8 @@ use Rattle.calls.specs.Commands.{Issued, issued, decode, controlTraits, 
 use Rattle.calls.specs.Reset.{blankSheet, noCells, resetState, resetStores, reset, fresh}
 use Rattle.calls.specs.Effects.{Effect, refused, done, completing, doControl, doCommand}
 use Rattle.calls.specs.Calls.{Call, command, compose, release, commandTests, checkOf, refusalOf, doCompose, emptied, released, doRelease, perform, effect, step}
-use Rattle.calls.specs.Lists.{worldAfter, counts, Deed, commanded, wasReleased, readOf, deedOf, finishesReset, Given, given, gives, Since, sinceNow, note, sinceOver, sinceReset}
 use Rattle.calls.specs.Premises.{Free}
+use Rattle.calls.specs.Lists.{worldAfter, counts, Deed, commanded, wasReleased, readOf, deedOf, finishesReset, Given, given, gives, Since, sinceNow, note, sinceOver, sinceReset}
 use Rattle.calls.proofs.Accepted.{allowed}
 use Rattle.calls.proofs.Refused.{accepted-effect, by-outcome}
 use Rattle.calls.proofs.Answers.{Shape, sets, quiet, shape, was-free}

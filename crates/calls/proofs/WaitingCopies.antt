@@ -1,11 +1,11 @@
 -- Demand 3: the copies that it compares are those that Compose shows of a page that waits.
-use borrow.Author.Tests.{not-true}
 use Prim.Native.Nat.{ℕ, _+_, _-_, _≤_}
 use mathlib.Core.Path.{_≡_, refl, sym, ap, _∙_}
 use mathlib.Core.Bool.{Bool, true, false, cond, not, _&&_, true≢false, false≢true}
 use mathlib.Core.List.{List, [], _∷_, _++_}
 use native.Mathlib.Omega.{arith}
 use lib.ListN.{getD}
+use borrow.Author.Tests.{not-true}
 use Rattle.seq.specs.Words.{lastOr, from}
 use Rattle.seq.proofs.Laws.{every-at, length-from, getD-from}
 use Rattle.seq.proofs.Loops.{getD-map}
@@ -17,8 +17,8 @@ use Rattle.calls.specs.Core.{Core, World}
 use Rattle.calls.specs.Commands.{decode, traitsOf}
 use Rattle.calls.specs.Reset.{blankSheet, resetState, resetStores, fresh}
 use Rattle.calls.specs.Calls.{Call, command, compose, release, refusalOf, doCompose, doRelease, perform, effect, over, step, Copy, copyAt}
-use Rattle.calls.specs.Lists.{worldAfter, counts, finishesReset, copiesOfPage, Given, given, gives, Since, sinceNow, note, sinceOver, sinceReset}
 use Rattle.calls.specs.Premises.{Free}
+use Rattle.calls.specs.Lists.{worldAfter, counts, finishesReset, copiesOfPage, Given, given, gives, Since, sinceNow, note, sinceOver, sinceReset}
 use Rattle.calls.proofs.Accepted.{allowed}
 use Rattle.calls.proofs.Refused.{accepted-effect}
 use Rattle.calls.proofs.Answers.{ready-exactly, was-free, released-free}
