@@ -142,6 +142,10 @@ row calls answers buffer sense s m = record { calls = calls; answers = answers; 
 abbrev after : List Call → Call → Answer → Sense → State → Stores → Row
 after cs c a = row (cs ++ (c ∷ [])) (replicate (length cs) fine ++ (a ∷ [])) []
 
+-- A line of C2 with 01 in its last cell.
+abbrev legended : List ℕ
+legended = 2 ∷ zeros (lineWidth - 2) ++ (1 ∷ [])
+
 -- Legends on copy 2 of two copies, and a line of C2 on a page that Clear completes.
 abbrev r12 : ℕ → List ℕ → Row
 r12 n out =
@@ -182,7 +186,7 @@ rows =
     ∷ after [] (with 0x43 (0 ∷ 0 ∷ [])) (says (LoadCheck SequenceCounts) 0x0E false 0) (sense3 0x02 0 0x10) (on (at 1)) (page [])
     -- R12
     ∷ r12 1 (2 ∷ [])
-    ∷ r12 2 (2 ∷ zeros 202 ++ (1 ∷ []))
+    ∷ r12 2 legended
     ∷ []
 
 -- Two copies from number 5 on, with mark 1; a legend on number 6; a line of C2. And what is left of them, with a page that waits.
@@ -216,9 +220,9 @@ ours =
     row [] [] [] noSense (on (at 1)) (page [])
     -- A segment covers by copy number, not by copy index.
     ∷ composing (cmd 0x87) false 1 5 (2 ∷ [])
-    ∷ composing (cmd 0x87) false 2 6 (2 ∷ zeros 202 ++ (1 ∷ []))
+    ∷ composing (cmd 0x87) false 2 6 legended
     -- Initialize leaves the legends of the page that it has just completed; after its Release they are gone, with sequence and number.
-    ∷ composing (cmd 0x37) true 2 6 (2 ∷ zeros 202 ++ (1 ∷ []))
+    ∷ composing (cmd 0x37) true 2 6 legended
     ∷ row (fromFive ++ (cmd 0x37 ∷ release ∷ with 0x01 (0xC3 ∷ []) ∷ cmd 0x87 ∷ copy 1 ∷ [])) (replicate 4 fine ++ (completes 0 ∷ freed ∷ fine ∷ completes 0 ∷ copied 1 0 ∷ []))
     (filled copySize (3 ∷ [])) noSense (on (waiting 1)) (page (3 ∷ []))
     -- A reset forgets the selection, and keeps the check switch; so does the reset that a Release does.
