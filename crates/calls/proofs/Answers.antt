@@ -1,10 +1,12 @@
--- Document 01, "Calls": what each field of an answer says of the call that it answers.
+-- Document 01, "Calls": what each field of an answer says of the call that it answers, and how long Sense's reply is.
 use Prim.Native.Nat.{ℕ}
 use mathlib.Core.Path.{_≡_, refl, sym, ap, _∙_}
 use mathlib.Core.Bool.{Bool, true, false, cond, not, _&&_, true≢false, and-false}
 use mathlib.Core.List.{List}
+use lib.ListN.{length}
 use lib.Dec.{eqb}
 use Rattle.seq.proofs.Laws.{cond-has}
+use Rattle.numbers.specs.Sizes.{senseSize}
 use Rattle.numbers.specs.declared.Sense.{Sense}
 use Rattle.numbers.specs.declared.Refusal.the-variants.{Accepted}
 use Rattle.numbers.specs.declared.SenseStep.{SenseStep}
@@ -16,6 +18,7 @@ use Rattle.movement.specs.Movement.{still, toTop}
 use Rattle.line.specs.declared.Causes.{Causes}
 use Rattle.line.specs.Line.{noCauses}
 use Rattle.calls.specs.declared.Sheet.{Sheet}
+use Rattle.calls.specs.declared.State.{State}
 use Rattle.calls.specs.declared.Load.{Load}
 use Rattle.calls.specs.declared.Load.the-variants.{Fcb, TranslateTable, CopyModification, OverlaySequence, CopyNumber}
 use Rattle.calls.specs.declared.Control.{Control}
@@ -24,7 +27,7 @@ use Rattle.calls.specs.declared.Command.{Command}
 use Rattle.calls.specs.declared.Command.the-variants.{Write, Move, Controls, Loads, Unlisted}
 use Rattle.calls.specs.Core.{Core, World, started}
 use Rattle.calls.specs.Commands.{Issued, decode, controlTraits, traitsOf, isUnlisted}
-use Rattle.calls.specs.Reset.{blankSheet, resetState, reset}
+use Rattle.calls.specs.Reset.{blankSheet, resetState, reset, senseBytes}
 use Rattle.calls.specs.Effects.{Effect, nothing, refused, done, movedSheet, moveOf, standing, movedCore, marked, written, loaded, atLine1, quietly, doMove, doWrite, doLoad, completing, doControl, doCommand}
 use Rattle.calls.specs.Calls.{Call, command, compose, release, movement, refusalOf, doCompose, doRelease, emptied, released, perform, effect, step}
 use Rattle.calls.specs.Premises.{Free}
@@ -210,3 +213,8 @@ ready-perform k release e = rw (released-free k) (sym (and-false (not (k .state 
 pub ready-exactly : (k : Core) (c : Call) → ReadyHolds k (effect k c)
 unfolding refused
 ready-exactly k c = by-outcome (ReadyHolds k) k c (ready-perform k c) (λ e. not-both (k .state .sheet .waiting))
+
+-- Sense replies 24 bytes.
+pub length-senseBytes : (s : State) (n : Sense) → length (senseBytes s n) ≡ senseSize
+unfolding senseBytes
+length-senseBytes s n = refl

@@ -86,10 +86,6 @@ again k (command i) e = again-command k i (not-true _ (every-at 1 _ e)) (every-a
 again k (compose n out) e = absurd (false≢true e)
 again k release e = refl
 
-again-given : (k : Core) (c : Call) → counts k c ≡ true → given k (callOf (deedOf c)) ≡ given k c
-unfolding given
-again-given k c e = rw (again k c e)
-
 -- A finished reset leaves a printer that depends on form, pitches and switch alone.
 is-initialize : (c : Command) → traitsOf c .resets ≡ true → c ≡ Controls Initialize
 unfolding traitsOf controlTraits
@@ -158,7 +154,7 @@ pub record Tracks (f : Fixed) (k : Core) (s : Since) : Type 0 where
   pub blank : Blank k
 
 track-note : (f : Fixed) (k : Core) (s : Since) (c : Call) → Tracks f k s → Tracks f (effect k c .core) (note k s c)
-unfolding note sinceNow redo gives
+unfolding note sinceNow redo gives given
 track-note f k s c t = go (finishesReset k c) refl (counts k c) refl
   where
     go : (p : Bool) → finishesReset k c ≡ p → (q : Bool) → counts k c ≡ q → Tracks f (effect k c .core) (note k s c)
@@ -174,7 +170,7 @@ track-note f k s c t = go (finishesReset k c) refl (counts k c) refl
         rw (ep, eq)
         (record {
           core = rw (redo-one, ← t .core, again k c eq);
-          gave = rw (redone-one, ← t .gave, ← t .core, again-given k c eq);
+          gave = rw (redone-one, ← t .gave, ← t .core, again k c eq);
           fixed = fixed-call f k c (t .fixed);
           blank = blank-call k c (t .blank);
         })

@@ -67,12 +67,8 @@ after-release : (k : Core) (c : Call) → c ≡ release → counts k c ≡ true 
 unfolding counts perform doRelease
 after-release k c e a = rw e (rw (accepted-effect k release (rw e at a)) (released-free k))
 
-given-page : (k : Core) (c : Call) → effect k c .answer .ready ≡ true → given k c .page ≡ copiesOfPage (effect k c .core)
-unfolding given
-given-page k c e = rw e
-
 shown-note : (k : Core) (s : Since) (c : Call) → Blank k → Shown k s → Shown (effect k c .core) (note k s c)
-unfolding note
+unfolding note given
 shown-note k s c z h = go (finishesReset k c) refl (counts k c) refl (k .state .sheet .waiting) refl
   where
     go : (p : Bool) → finishesReset k c ≡ p → (q : Bool) → counts k c ≡ q → (w : Bool) → k .state .sheet .waiting ≡ w → Shown (effect k c .core) (note k s c)
@@ -80,7 +76,7 @@ shown-note k s c z h = go (finishesReset k c) refl (counts k c) refl (k .state .
     go false ep true eq true ew v = absurd (false≢true (sym (after-release k c (page-stays k c ew eq) eq) ∙ v))
     go false ep true eq false ew v =
         let r : effect k c .answer .ready ≡ true = ready-exactly k c ∙ ap (λ (x : Bool). not x && effect k c .core .state .sheet .waiting) ew ∙ v in
-        rw (ep, eq) (ap (λ (g : Given). g .page) (last-one nothingYet (s .gave) (given k c)) ∙ given-page k c r)
+        rw (ep, eq, last-one, r)
     go false ep false eq w ew v =
         let i : effect k c .core ≡ k = idle-core k c eq in
         rw (ep, eq, i) (h (sym (ap (λ (x : Core). x .state .sheet .waiting) i) ∙ v))
