@@ -181,10 +181,6 @@ sets-anew k i e q = anew-shape (acted k i e) q
 abbrev ReadyHolds : Core → Effect → Type 0
 ReadyHolds k e = e .answer .ready ≡ (not (k .state .sheet .waiting) && e .core .state .sheet .waiting)
 
-now-waits : (w a b : Bool) → w ≡ false → b ≡ a → a ≡ (not w && b)
-now-waits true a b e h = absurd (true≢false e)
-now-waits false a b e h = sym h
-
 not-both : (w : Bool) → false ≡ (not w && w)
 not-both true = refl
 not-both false = refl
@@ -197,7 +193,7 @@ was-free {w = false} n e = refl
 
 ready-shape : {k : Core} {c : Command} {e : Effect} → Shape k c e → (k .state .sheet .waiting && not (traitsOf c .quiet)) ≡ false → ReadyHolds k e
 unfolding done
-ready-shape {k} (sets k′ x q w h) f = let free = was-free q f in rw h (now-waits (k .state .sheet .waiting) _ _ free (w free))
+ready-shape {k} (sets k′ x q w h) f = let free : Free k = was-free q f in rw (h, w free, free)
 ready-shape {k} (quiet s f q m h) e = rw h (not-both (k .state .sheet .waiting))
 
 pub released-free : (k : Core) → Free (released k)

@@ -4,9 +4,12 @@ use Prim.Native.Nat.{ℕ}
 use mathlib.Core.Path.{_≡_, refl, ap, _∙_}
 use mathlib.Core.Bool.{true, false}
 use mathlib.Core.List.{List, [], _∷_}
+use lib.ListN.{take, drop}
+use Rattle.numbers.specs.Sizes.{senseSize}
 use Rattle.numbers.specs.Numbers.{isAccepted}
 use Rattle.calls.specs.declared.Fixed.{Fixed}
 use Rattle.calls.specs.Core.{Stores, Core, World}
+use Rattle.calls.specs.Commands.{issued, codes, lookUp, decode}
 use Rattle.calls.specs.Reset.{fresh, senseBytes}
 use Rattle.calls.specs.Effects.{Effect, refused, doControl, doCommand}
 use Rattle.calls.specs.Calls.{Call, compose, doCompose, perform, effect, over, step, command, lent}
@@ -15,9 +18,6 @@ use Rattle.calls.specs.Lists.{worldAfter, gives, sinceReset}
 use Rattle.calls.proofs.Accepted.{started-world}
 use Rattle.calls.proofs.Refused.{by-outcome}
 use Rattle.calls.proofs.SinceReset.{tracked}
-use lib.ListN.{take, drop}
-use Rattle.numbers.specs.Sizes.{senseSize}
-use Rattle.calls.specs.Commands.{issued, codes, lookUp, decode}
 
 -- The sense has no part in what calls leave. Where it has none in what an accepted call puts over its buffer, it has none in the buffer.
 pub after-alike : (v w : World) (cs : List Call) → v .core ≡ w .core → worldAfter v cs .core ≡ worldAfter w cs .core
