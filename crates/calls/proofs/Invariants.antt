@@ -35,11 +35,11 @@ use Rattle.calls.proofs.Accepted.{started-world}
 use Rattle.calls.proofs.Refused.{no-9}
 use Rattle.calls.proofs.Answers.{names, untouched}
 use Rattle.calls.proofs.Good.{good-write, good-move, good-complete, good-reset, good-block, good-select, good-load, good-empty, ok, start-good}
-use Rattle.calls.proofs.Changes.{Unused, Changes, preserved, preserved-list}
+use Rattle.calls.proofs.Changes.{Unused, Survives, preserved, preserved-list}
 
 -- Contents that a printer can have.
-good-changes : Changes Good
-good-changes =
+good-survives : Survives Good
+good-survives =
     record {
       write = λ r g f h q. good-write r g f h;
       move = λ m g f h q. good-move m g f h;
@@ -52,10 +52,10 @@ good-changes =
     }
 
 pub good-call : (k : Core) (c : Call) → Good k → Good (effect k c .core)
-good-call = preserved good-changes
+good-call = preserved good-survives
 
 pub good-calls : (w : World) (cs : List Call) → Good (w .core) → Good (worldAfter w cs .core)
-good-calls = preserved-list good-changes
+good-calls = preserved-list good-survives
 
 -- After an accepted Start no call ever gets 9.
 pub never-9 : (a : Asked) (m : Stores) (cs : List Call) (c : Call) → isAccepted (startRefusal a m) ≡ true
@@ -68,9 +68,9 @@ never-9 a m cs c e =
 abbrev pub Fixes : Fixed → Core → Type 0
 Fixes f k = k .state .fixed ≡ f
 
-fixes-changes : (f : Fixed) → Changes (Fixes f)
+fixes-survives : (f : Fixed) → Survives (Fixes f)
 unfolding written reset resetState emptied
-fixes-changes f =
+fixes-survives f =
     record {
       write = λ r g f h q. q;
       move = λ m g f h q. q;
@@ -83,7 +83,7 @@ fixes-changes f =
     }
 
 pub fixed-call : (f : Fixed) (k : Core) (c : Call) → Fixes f k → Fixes f (effect k c .core)
-fixed-call f = preserved (fixes-changes f)
+fixed-call f = preserved (fixes-survives f)
 
 -- The lengths of the arrays. A reset sets them anew; what a load takes fits its array.
 pub reset-sized : (f : Fixed) (blocked : Bool) → FixedGood f → length (f .pitches) ≡ 4 → Sized (resetState f blocked)
@@ -108,9 +108,9 @@ load-sized CopyModification r g e z = z
 load-sized OverlaySequence r g e z = let fits = length-padded pairSize r (sequence-fits r e) in search
 load-sized CopyNumber r g e z = search
 
-sized-changes : Changes (λ k. Sized (k .state))
+sized-survives : Survives (λ k. Sized (k .state))
 unfolding written reset emptied slotSelected
-sized-changes =
+sized-survives =
     record {
       write = λ r g f h q. search;
       move = λ m g f h q. search;
@@ -123,10 +123,10 @@ sized-changes =
     }
 
 pub sized-call : (k : Core) (c : Call) → Sized (k .state) → Sized (effect k c .core .state)
-sized-call = preserved sized-changes
+sized-call = preserved sized-survives
 
 pub sized-calls : (w : World) (cs : List Call) → Sized (w .core .state) → Sized (worldAfter w cs .core .state)
-sized-calls = preserved-list sized-changes
+sized-calls = preserved-list sized-survives
 
 -- A page that is neither started nor waiting is all 00.
 abbrev pub BlankSheet : Sheet → List ℕ → Type 0
@@ -153,9 +153,9 @@ blank-reset k f (inl u) h w′ u′ = h f u
 blank-reset k f (inr e) h w′ u′ = e
 
 -- A completed page waits; a load comes to a page that is not started.
-blank-changes : Changes Blank
+blank-survives : Survives Blank
 unfolding written marked started movedSheet toTop emptied
-blank-changes =
+blank-survives =
     record {
       write = λ {k} r g f h q w u. absurd (true≢false (sym (or-true (not (eqb (k .state .sheet .line) 1))) ∙ u));
       move = λ {k} m g f h q. blank-moved (k .state .sheet) m (k .stores .page) _ (g .sheet .low) h q;
@@ -168,4 +168,4 @@ blank-changes =
     }
 
 pub blank-call : (k : Core) (c : Call) → Blank k → Blank (effect k c .core)
-blank-call = preserved blank-changes
+blank-call = preserved blank-survives
