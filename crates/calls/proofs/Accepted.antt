@@ -1,5 +1,4 @@
 -- What is known of an accepted call: no test of its order held.
-use borrow.Author.Tests.{not-false, eqb-false, ltb-false}
 use Prim.Native.Nat.{ℕ, _*_, _≤_}
 use mathlib.Core.Path.{_≡_, refl, ap}
 use mathlib.Core.Bool.{Bool, true, false}
@@ -7,6 +6,7 @@ use mathlib.Core.List.{List, [], _∷_}
 use native.Mathlib.Omega.{arith}
 use lib.Dec.{eqb}
 use lib.ListN.{length}
+use borrow.Author.Tests.{not-false, eqb-false, ltb-false}
 use Rattle.seq.specs.Words.{when, firstOr}
 use Rattle.seq.proofs.Laws.{or-left, or-right, passed}
 use Rattle.numbers.specs.Sizes.{lineBytes, legendSize}
@@ -16,9 +16,9 @@ use Rattle.numbers.specs.declared.Refusal.the-variants.{Accepted, NotListed, Ba
 use Rattle.numbers.specs.Numbers.{rowOf, numberOf, isAccepted, checked}
 use Rattle.numbers.proofs.Laws.{accepted-is, not-accepted, passed-check, goes-on}
 use Rattle.copies.specs.Copies.{copyCount}
+use Rattle.calls.specs.declared.State.{State}
 use Rattle.calls.specs.declared.Command.{Command}
 use Rattle.calls.specs.declared.Command.the-variants.{Write, Move, Controls, Loads, Unlisted}
-use Rattle.calls.specs.declared.State.{State}
 use Rattle.calls.specs.Core.{Stores, Core, P}
 use Rattle.calls.specs.Commands.{Issued, decode}
 use Rattle.calls.specs.Contents.{coreOk}

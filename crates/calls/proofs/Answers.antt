@@ -1,10 +1,12 @@
--- Document 01, "Calls": what each field of an answer says of the call that it answers.
+-- Document 01, "Calls": what each field of an answer says of the call that it answers, and how long Sense's reply is.
 use Prim.Native.Nat.{ℕ}
 use mathlib.Core.Path.{_≡_, refl, sym, ap, _∙_}
 use mathlib.Core.Bool.{Bool, true, false, cond, not, _&&_, true≢false, and-false}
 use mathlib.Core.List.{List}
+use lib.ListN.{length}
 use lib.Dec.{eqb}
 use Rattle.seq.proofs.Laws.{cond-has}
+use Rattle.numbers.specs.Sizes.{senseSize}
 use Rattle.numbers.specs.declared.Sense.{Sense}
 use Rattle.numbers.specs.declared.Refusal.the-variants.{Accepted}
 use Rattle.numbers.specs.declared.SenseStep.{SenseStep}
@@ -16,17 +18,19 @@ use Rattle.movement.specs.Movement.{still, toTop}
 use Rattle.line.specs.declared.Causes.{Causes}
 use Rattle.line.specs.Line.{noCauses}
 use Rattle.calls.specs.declared.Sheet.{Sheet}
-use Rattle.calls.specs.declared.Command.{Command}
-use Rattle.calls.specs.declared.Command.the-variants.{Write, Move, Controls, Loads, Unlisted}
-use Rattle.calls.specs.declared.Control.{Control}
-use Rattle.calls.specs.declared.Control.the-variants.{NoOp, SenseIo, Initialize, Clear, Block, Allow, Select}
-use Rattle.calls.specs.Core.{Core, World, started}
-use Rattle.calls.specs.Commands.{Issued, decode, controlTraits, traitsOf, isUnlisted}
+use Rattle.calls.specs.declared.State.{State}
 use Rattle.calls.specs.declared.Load.{Load}
 use Rattle.calls.specs.declared.Load.the-variants.{Fcb, TranslateTable, CopyModification, OverlaySequence, CopyNumber}
-use Rattle.calls.specs.Reset.{blankSheet, resetState, reset}
+use Rattle.calls.specs.declared.Control.{Control}
+use Rattle.calls.specs.declared.Control.the-variants.{NoOp, SenseIo, Initialize, Clear, Block, Allow, Select}
+use Rattle.calls.specs.declared.Command.{Command}
+use Rattle.calls.specs.declared.Command.the-variants.{Write, Move, Controls, Loads, Unlisted}
+use Rattle.calls.specs.Core.{Core, World, started}
+use Rattle.calls.specs.Commands.{Issued, decode, controlTraits, traitsOf, isUnlisted}
+use Rattle.calls.specs.Reset.{blankSheet, resetState, reset, senseBytes}
 use Rattle.calls.specs.Effects.{Effect, nothing, refused, done, movedSheet, moveOf, standing, movedCore, marked, written, loaded, atLine1, quietly, doMove, doWrite, doLoad, completing, doControl, doCommand}
 use Rattle.calls.specs.Calls.{Call, command, compose, release, movement, refusalOf, doCompose, doRelease, emptied, released, perform, effect, step}
+use Rattle.calls.specs.Premises.{Free}
 use Rattle.calls.proofs.Accepted.{allowed}
 use Rattle.calls.proofs.Refused.{accepted-effect, by-outcome}
 
@@ -47,10 +51,7 @@ isCompose (command i) = false
 isCompose (compose n out) = true
 isCompose release = false
 
--- No page waits; and after a command one waits exactly if it completed one.
-abbrev pub Free : Core → Type 0
-Free k = k .state .sheet .waiting ≡ false
-
+-- After a command that found no page waiting, one waits exactly if it completed one.
 abbrev Waits : Core → Moved → Core → Type 0
 Waits k m k′ = Free k → k′ .state .sheet .waiting ≡ not (eqb (m .pages) 0)
 
@@ -67,13 +68,19 @@ moved-waits : (due : Bool) (s : Sheet) (m : Moved) → s .waiting ≡ false → 
 unfolding movedSheet
 moved-waits due s m e = cond-waits (eqb (m .pages) 0) _ _ e refl
 
-loaded-waits : (k : Core) (l : Load) (r : List ℕ) → loaded k l r .state .sheet .waiting ≡ k .state .sheet .waiting
+-- What no load touches.
+pub record Untouched (k k′ : Core) : Type 0 where
+  pub fixed : k′ .state .fixed ≡ k .state .fixed
+  pub waiting : k′ .state .sheet .waiting ≡ k .state .sheet .waiting
+  pub page : k′ .stores .page ≡ k .stores .page
+
+pub untouched : (k : Core) (l : Load) (r : List ℕ) → Untouched k (loaded k l r)
 unfolding loaded atLine1
-loaded-waits k Fcb r = refl
-loaded-waits k TranslateTable r = refl
-loaded-waits k CopyModification r = refl
-loaded-waits k OverlaySequence r = refl
-loaded-waits k CopyNumber r = refl
+untouched k Fcb r = record { fixed = refl; waiting = refl; page = refl }
+untouched k TranslateTable r = record { fixed = refl; waiting = refl; page = refl }
+untouched k CopyModification r = record { fixed = refl; waiting = refl; page = refl }
+untouched k OverlaySequence r = record { fixed = refl; waiting = refl; page = refl }
+untouched k CopyNumber r = record { fixed = refl; waiting = refl; page = refl }
 
 shape-completing : (k k′ : Core) (due t : Bool) (c : Control) → controlTraits c .completes ≡ true → controlTraits c .quiet ≡ false → (Free k → Free k′)
     → started (k .state .sheet) ≡ t → Shape k (Controls c) (completing k due k′)
@@ -92,7 +99,7 @@ shape k (Controls Clear) i e = shape-completing k k false (started (k .state .sh
 shape k (Controls Block) i e = sets _ _ refl (λ w. w) refl
 shape k (Controls Allow) i e = sets _ _ refl (λ w. w) refl
 shape k (Controls (Select n)) i e = sets _ _ refl (λ w. w) refl
-shape k (Loads l) i e = sets _ _ refl (λ w. loaded-waits k l (i .sent) ∙ w) refl
+shape k (Loads l) i e = sets _ _ refl (λ w. untouched k l (i .sent) .waiting ∙ w) refl
 shape k Unlisted i e = absurd (true≢false e)
 
 performed : (k : Core) (i : Issued) → isAccepted (refusalOf k (command i)) ≡ true → Shape k (decode (i .byte)) (doCommand k (decode (i .byte)) i)
@@ -145,7 +152,7 @@ lines-of-others k (command i) e = absurd (true≢false e)
 lines-of-others k (compose n out) e = by-outcome (λ (x : Effect). x .answer .lines ≡ 0) k (compose n out) (λ a. refl) (λ a. refl)
 lines-of-others k release e = by-outcome (λ (x : Effect). x .answer .lines ≡ 0) k release (λ a. refl) (λ a. refl)
 
--- Copy number and overlay mark are 0 in every answer but that of an accepted Compose.
+-- Copy number and overlay mark are 0 in every answer except that of an accepted Compose.
 abbrev NoCopy : Effect → Type 0
 NoCopy e = (e .answer .copy ≡ 0) × (e .answer .mark ≡ 0)
 
@@ -160,7 +167,7 @@ no-copy k (command i) e = by-outcome NoCopy k (command i) (λ a. copy-shape (per
 no-copy k (compose n out) e = by-outcome NoCopy k (compose n out) (λ a. absurd (true≢false (sym a ∙ e))) (λ a. (refl, refl))
 no-copy k release e = by-outcome NoCopy k release (λ a. (refl, refl)) (λ a. (refl, refl))
 
--- Accepted commands but No-Op and Sense set the sense anew.
+-- Accepted commands except No-Op and Sense set the sense anew.
 anew-shape : {k : Core} {c : Command} {e : Effect} → Shape k c e → traitsOf c .quiet ≡ false → isAnew (e .sense) ≡ true
 unfolding done
 anew-shape (sets k′ x q w e) n = rw e
@@ -174,10 +181,6 @@ sets-anew k i e q = anew-shape (acted k i e) q
 abbrev ReadyHolds : Core → Effect → Type 0
 ReadyHolds k e = e .answer .ready ≡ (not (k .state .sheet .waiting) && e .core .state .sheet .waiting)
 
-now-waits : (w a b : Bool) → w ≡ false → b ≡ a → a ≡ (not w && b)
-now-waits true a b e h = absurd (true≢false e)
-now-waits false a b e h = sym h
-
 not-both : (w : Bool) → false ≡ (not w && w)
 not-both true = refl
 not-both false = refl
@@ -190,19 +193,24 @@ was-free {w = false} n e = refl
 
 ready-shape : {k : Core} {c : Command} {e : Effect} → Shape k c e → (k .state .sheet .waiting && not (traitsOf c .quiet)) ≡ false → ReadyHolds k e
 unfolding done
-ready-shape {k} (sets k′ x q w h) f = let free = was-free q f in rw h (now-waits (k .state .sheet .waiting) _ _ free (w free))
+ready-shape {k} (sets k′ x q w h) f = let free : Free k = was-free q f in rw (h, w free, free)
 ready-shape {k} (quiet s f q m h) e = rw h (not-both (k .state .sheet .waiting))
 
-pub released-waits : (k : Core) → released k .state .sheet .waiting ≡ false
+pub released-free : (k : Core) → Free (released k)
 unfolding released emptied reset resetState blankSheet
-released-waits k = cond-has (λ (x : Core). x .state .sheet .waiting ≡ false) (k .state .sheet .due) (λ t. refl) (λ t. refl)
+released-free k = cond-has Free (k .state .sheet .due) (λ t. refl) (λ t. refl)
 
 ready-perform : (k : Core) (c : Call) → isAccepted (refusalOf k c) ≡ true → ReadyHolds k (perform k c)
 unfolding perform doCompose doRelease
 ready-perform k (command i) e = ready-shape (performed k i e) (allowed k i e .free)
 ready-perform k (compose n out) e = not-both (k .state .sheet .waiting)
-ready-perform k release e = rw (released-waits k) (sym (and-false (not (k .state .sheet .waiting))))
+ready-perform k release e = rw (released-free k) (sym (and-false (not (k .state .sheet .waiting))))
 
 pub ready-exactly : (k : Core) (c : Call) → ReadyHolds k (effect k c)
 unfolding refused
 ready-exactly k c = by-outcome (ReadyHolds k) k c (ready-perform k c) (λ e. not-both (k .state .sheet .waiting))
+
+-- Sense replies 24 bytes.
+pub length-senseBytes : (s : State) (n : Sense) → length (senseBytes s n) ≡ senseSize
+unfolding senseBytes
+length-senseBytes s n = refl

@@ -26,19 +26,19 @@ use Rattle.calls.specs.Contents.{coreOk}
 use Rattle.calls.specs.Reset.{blankSheet, noCells, reset}
 use Rattle.calls.specs.Effects.{Effect, refused, done, movedCore, moveOf, doMove, marked, written, doWrite, loadCheck, slotSelected, loaded, doLoad, completing, doControl, doCommand}
 use Rattle.calls.specs.Calls.{Call, command, compose, release, checkOf, refusalOf, doCompose, emptied, released, doRelease, perform, effect, step}
+use Rattle.calls.specs.Premises.{Good, Allowed, Free}
 use Rattle.calls.specs.Lists.{worldAfter}
-use Rattle.calls.specs.Premises.{Good, Allowed}
 use Rattle.calls.proofs.Accepted.{allowed}
 use Rattle.calls.proofs.Refused.{bad-store, by-outcome}
-use Rattle.calls.proofs.Answers.{Free, was-free}
+use Rattle.calls.proofs.Answers.{was-free}
 use Rattle.calls.proofs.Good.{good, good-write, good-empty, move-went}
 
 -- A reset finds nothing on the page: it is not started, or was emptied just before.
 abbrev pub Unused : Core → Type 0
 Unused k = (started (k .state .sheet) ≡ false) ⊎ (k .stores .page ≡ noCells)
 
--- The eight changes, each with what holds where it is done; Q holds after it if it held before.
-pub record Changes (Q : Core → Type 0) : Type 0 where
+-- Q survives each of the eight changes, which come with what holds where they are done.
+pub record Survives (Q : Core → Type 0) : Type 0 where
   pub write : {k : Core} (r : List ℕ) → Good k → Free k → length r ≤ lineWidth → Q k → Q (written k r)
   pub move : {k : Core} (m : Moved) → Good k → Free k → Went (P (k .state)) (k .state .sheet .line) m → Q k → Q (movedCore false k m)
   pub complete : {k : Core} (due : Bool) → Good k → Free k → Q k → Q (movedCore due k toTop)
@@ -84,7 +84,7 @@ accepted-good k c e = go (coreOk k) refl
     go true h = good k h
     go false h = absurd (true≢false (sym e ∙ ap isAccepted (bad-store k c h)))
 
-module _ {Q : Core → Type 0} (q : Changes Q) where
+module _ {Q : Core → Type 0} (q : Survives Q) where
   by-completing : {k k′ : Core} (due : Bool) → Good k → Free k → Q k → (started (k .state .sheet) ≡ false → Q k′) → Q (completing k due k′ .core)
   unfolding completing done
   by-completing {k} due g f h h′ = cond-has (λ (e : Effect). Q (e .core)) (started (k .state .sheet)) (λ t. q .complete due g f h) h′

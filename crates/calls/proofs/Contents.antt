@@ -1,15 +1,16 @@
 -- Document 01, "Numbers" and "Commands", by computation: each clause of "contents no printer has" is a test of its own, what is allowed
 -- is allowed, Start's refusals come in their order, and 46 bytes are commands.
-use Prim.Native.Nat.{ℕ, zero, suc}
+use Prim.Native.Nat.{ℕ, zero, suc, _+_, _-_}
 use mathlib.Core.Path.{_≡_, refl}
 use mathlib.Core.Bool.{Bool, true, false, cond, not}
 use mathlib.Core.List.{List, [], _∷_, _++_, map, flatten}
 use lib.ListN.{length, set, replicate}
 use Rattle.seq.specs.Words.{when, firstOr, every, from, zeros, padded}
+use Rattle.numbers.specs.Sizes.{lineWidth, pageSize, legendSize, tableSize}
 use Rattle.numbers.specs.Numbers.{rowOf, numberOf, isSound}
-use Rattle.form.specs.Form.{formLengths, pitchesListed, pitchesOk, formOk, unitsOf, runsFrom, runs, unitsTotal, linesWhere, printable, edges, fcbCheck, layoutCheck, layoutOf, startFcb, formsOf, formsInRange}
+use Rattle.form.specs.Form.{formLengths, pitchesListed, pitchesOk, formOk, unitsOf, runsFrom, runs, unitsTotal, linesWhere, printable, edges, fcbCheck, layoutCheck, layoutOf, startFcb, fcbSize, formsOf, formsInRange}
 use Rattle.line.specs.Line.{startTable, startTables, startSlots, slotsInRange}
-use Rattle.copies.specs.Copies.{pairsOf, copiesOf, sequenceCheck, startCopies, copiesInRange}
+use Rattle.copies.specs.Copies.{pairSize, pairsOf, copiesOf, sequenceCheck, startCopies, copiesInRange}
 use Rattle.legends.specs.Legends.{badHead, cut, segments, legendCheck, storedSegments, legendsOk, noLegends}
 use Rattle.calls.specs.Core.{Stores, Core, sizesOk, withState, withPage, withLegends, withTables, withForms, withSlots, withCopies, withSheet, linesNow}
 use Rattle.calls.specs.Commands.{codes, lookUp, decode, isUnlisted}
@@ -37,7 +38,7 @@ abbrev with-copies : List ℕ → ℕ → ℕ → Core
 with-copies ps n r = withState k84 (withCopies (k84 .state) (record { pairs = ps; count = n; reference = r }))
 
 abbrev with-legends : List ℕ → Core
-with-legends l = withLegends k84 (padded 8192 l)
+with-legends l = withLegends k84 (padded legendSize l)
 
 abbrev fcb84 : List ℕ
 fcb84 = k84 .state .forms .fcb
@@ -48,7 +49,7 @@ one = k84 .state .copies .pairs
 -- n segments of 210 bytes; 39 of them take 8,190
 abbrev full : ℕ → List ℕ
 full zero = []
-full (suc n) = 1 ∷ 1 ∷ 1 ∷ 1 ∷ 1 ∷ 0xCC ∷ (zeros 204 ++ full n)
+full (suc n) = 1 ∷ 1 ∷ 1 ∷ 1 ∷ 1 ∷ 0xCC ∷ (zeros lineWidth ++ full n)
 
 -- Contents no printer has, with the place in `clauses` of the one clause that they break.
 pub record Broken : Type 0 where
@@ -61,11 +62,11 @@ breaks n k = record { core = k; clause = n }
 unfoldable pub broken : List Broken
 broken =
     -- a lent store of wrong size
-    breaks 0 (withPage k84 (zeros 26927)) ∷ breaks 0 (withPage k84 (zeros 26929)) ∷ breaks 0 (withLegends k84 (zeros 8191)) ∷ breaks 0 (withTables k84 (zeros 1025))
+    breaks 0 (withPage k84 (zeros (pageSize - 1))) ∷ breaks 0 (withPage k84 (zeros (pageSize + 1))) ∷ breaks 0 (withLegends k84 (zeros (legendSize - 1))) ∷ breaks 0 (withTables k84 (zeros (tableSize + 1)))
     -- a field outside its range: form and pitches
     ∷ breaks 1 (with-form 108 (10 ∷ 10 ∷ 10 ∷ 10 ∷ [])) ∷ breaks 1 (with-form 84 (10 ∷ 11 ∷ 10 ∷ 10 ∷ [])) ∷ breaks 1 (with-form 84 (0 ∷ 10 ∷ 10 ∷ 10 ∷ []))
     -- a count and the bytes after it
-    ∷ breaks 1 (with-fcb (set fcb84 143 1) 21) ∷ breaks 1 (with-copies (set one 15 1) 2 1) ∷ breaks 1 (with-copies (1 ∷ 0 ∷ flatten (replicate 7 (1 ∷ 1 ∷ []))) 17 1)
+    ∷ breaks 1 (with-fcb (set fcb84 (fcbSize - 1) 1) 21) ∷ breaks 1 (with-copies (set one (pairSize - 1) 1) 2 1) ∷ breaks 1 (with-copies (1 ∷ 0 ∷ flatten (replicate 7 (1 ∷ 1 ∷ []))) (pairSize + 1) 1)
     -- slot 0, the selection, the copy number
     ∷ breaks 1 (with-slots false 0) ∷ breaks 1 (with-slots true 4) ∷ breaks 1 (with-copies one 2 0)
     -- the current line
@@ -75,7 +76,7 @@ broken =
     -- forms control that its load would refuse
     ∷ breaks 4 (with-fcb fcb84 20) ∷ breaks 4 (with-fcb (set fcb84 0 1) 21) ∷ breaks 4 (with-fcb (set fcb84 4 0x0D) 21)
     -- an overlay sequence that its load would refuse
-    ∷ breaks 5 (with-copies (zeros 16) 0 1) ∷ breaks 5 (with-copies (set one 1 2) 2 1) ∷ breaks 5 (with-copies (1 ∷ zeros 15) 1 1)
+    ∷ breaks 5 (with-copies (zeros pairSize) 0 1) ∷ breaks 5 (with-copies (set one 1 2) 2 1) ∷ breaks 5 (with-copies (1 ∷ zeros (pairSize - 1)) 1 1)
     -- legends that their load would refuse
     ∷ breaks 6 (with-legends (1 ∷ 1 ∷ 1 ∷ 1 ∷ 0xCD ∷ 1 ∷ 0 ∷ [])) ∷ breaks 6 (with-legends (full 39 ++ 1 ∷ [])) ∷ breaks 6 (with-legends (full 38 ++ 1 ∷ 1 ∷ 1 ∷ 1 ∷ 1 ∷ 0xCD ∷ []))
     -- a byte other than 00 after them
@@ -84,20 +85,20 @@ broken =
 
 -- Contents that are not on the list: a page that waits with the form at any line, a form at 8 lines per inch, all copies, full legends,
 -- any cell and table bytes.
-unfoldable pub allowed : List Core
-allowed =
+unfoldable pub unbroken : List Core
+unbroken =
     k84
     ∷ with-sheet 15 true false false ∷ with-sheet 15 false true true ∷ with-sheet 5 false true false
-    ∷ with-fcb (padded 144 (replicate 28 0x10)) 28 ∷ with-slots true 3 ∷ with-copies (255 ∷ 1 ∷ zeros 14) 2 255
-    ∷ withPage k84 (replicate 26928 0xFF) ∷ withTables k84 (replicate 1024 0xFF)
+    ∷ with-fcb (padded fcbSize (replicate 28 0x10)) 28 ∷ with-slots true 3 ∷ with-copies (255 ∷ 1 ∷ zeros (pairSize - 2)) 2 255
+    ∷ withPage k84 (replicate pageSize 0xFF) ∷ withTables k84 (replicate tableSize 0xFF)
     ∷ with-legends (1 ∷ 1 ∷ 1 ∷ 1 ∷ 0xCC ∷ 1 ∷ 0 ∷ []) ∷ with-legends (full 39)
     ∷ []
 
 -- Broken contents break the one clause, and no other; what is allowed breaks none.
-pub each-alone : (map (λ b. clauses (b .core)) broken ≡ map (λ b. set (replicate 7 true) (b .clause) false) broken)
-    × (map clauses allowed ≡ replicate 11 (replicate 7 true))
-unfolding broken allowed flatten when firstOr every padded isSound formLengths pitchesListed pitchesOk formOk unitsOf runsFrom runs unitsTotal linesWhere printable edges fcbCheck layoutCheck layoutOf startFcb formsOf formsInRange startTable startTables startSlots slotsInRange pairsOf copiesOf sequenceCheck startCopies copiesInRange badHead cut segments legendCheck storedSegments legendsOk noLegends sizesOk linesNow lineOk rangesOk dueOk markOk blankSheet noCells resetState resetStores fresh
-each-alone = (refl, refl)
+pub clauses-table : (map (λ b. clauses (b .core)) broken ≡ map (λ b. set (replicate 7 true) (b .clause) false) broken)
+    × (map clauses unbroken ≡ replicate 11 (replicate 7 true))
+unfolding broken unbroken flatten when firstOr every padded isSound formLengths pitchesListed pitchesOk formOk unitsOf runsFrom runs unitsTotal linesWhere printable edges fcbCheck layoutCheck layoutOf startFcb formsOf formsInRange startTable startTables startSlots slotsInRange pairsOf copiesOf sequenceCheck startCopies copiesInRange badHead cut segments legendCheck storedSegments legendsOk noLegends sizesOk linesNow lineOk rangesOk dueOk markOk blankSheet noCells resetState resetStores fresh
+clauses-table = (refl, refl)
 
 -- All cell and table bytes are allowed. (So is all legend text: `stored-ok` holds whatever the text is translated to.)
 pub any-page : (k : Core) (p : List ℕ) → length p ≡ length (k .stores .page) → coreOk (withPage k p) ≡ coreOk k
@@ -109,33 +110,33 @@ unfolding coreOk sizesOk
 any-tables k t e = rw e
 
 -- Start: 9 by sizes alone, then 10, on the numbers as they were passed.
-abbrev sized : ℕ → ℕ → ℕ → Stores
-sized a b c = record { page = replicate a 1; legends = replicate b 1; tables = replicate c 1 }
+abbrev ones : ℕ → ℕ → ℕ → Stores
+ones a b c = record { page = replicate a 1; legends = replicate b 1; tables = replicate c 1 }
 
 abbrev right : Stores
-right = sized 26928 8192 1024
+right = ones pageSize legendSize tableSize
 
 abbrev starts : ℕ → List ℕ → Stores → ℕ
 starts len ps m = numberOf (startRefusal (asked len ps) m)
 
-pub start-numbers :
+pub start-table :
     (starts 84 (10 ∷ 0 ∷ 12 ∷ 15 ∷ []) right ∷ starts 288 (15 ∷ 0 ∷ 0 ∷ 0 ∷ []) right
     ∷ starts 85 (10 ∷ 0 ∷ 12 ∷ 15 ∷ []) right ∷ starts 65620 (10 ∷ 0 ∷ 12 ∷ 15 ∷ []) right
     ∷ starts 84 (0 ∷ 10 ∷ 12 ∷ 15 ∷ []) right ∷ starts 84 (10 ∷ 11 ∷ 12 ∷ 15 ∷ []) right ∷ starts 84 (10 ∷ 0 ∷ 12 ∷ 271 ∷ []) right
-    ∷ starts 85 (10 ∷ 0 ∷ 12 ∷ 15 ∷ []) (sized 26927 8192 1024) ∷ starts 84 (10 ∷ 0 ∷ 12 ∷ 15 ∷ []) (sized 26928 8193 1024) ∷ starts 84 (10 ∷ 0 ∷ 12 ∷ 15 ∷ []) (sized 26928 8192 0)
+    ∷ starts 85 (10 ∷ 0 ∷ 12 ∷ 15 ∷ []) (ones (pageSize - 1) legendSize tableSize) ∷ starts 84 (10 ∷ 0 ∷ 12 ∷ 15 ∷ []) (ones pageSize (legendSize + 1) tableSize) ∷ starts 84 (10 ∷ 0 ∷ 12 ∷ 15 ∷ []) (ones pageSize legendSize 0)
     ∷ [])
     ≡ 0 ∷ 0 ∷ 10 ∷ 10 ∷ 10 ∷ 10 ∷ 10 ∷ 9 ∷ 9 ∷ 9 ∷ []
 unfolding startRefusal when firstOr every sizesOk formLengths pitchesListed pitchesOk formOk rowOf
-start-numbers = refl
+start-table = refl
 
 -- The command bytes: 46, and no others.
 unfoldable pub keepIf : (ℕ → Bool) → List ℕ → List ℕ
 keepIf f [] = []
 keepIf f (x ∷ xs) = let rest = keepIf f xs in cond (f x) (x ∷ rest) rest
 
-pub commands : keepIf (λ b. not (isUnlisted (decode b))) (from 0 256)
+pub commands-table : keepIf (λ b. not (isUnlisted (decode b))) (from 0 256)
     ≡ 0x01 ∷ 0x03 ∷ 0x04 ∷ 0x09 ∷ 0x0B ∷ 0x11 ∷ 0x13 ∷ 0x19 ∷ 0x1B ∷ 0x23 ∷ 0x35 ∷ 0x37 ∷ 0x43 ∷ 0x47 ∷ 0x57 ∷ 0x63
     ∷ 0x67 ∷ 0x73 ∷ 0x77 ∷ 0x7B ∷ 0x83 ∷ 0x87 ∷ 0x89 ∷ 0x8B ∷ 0x91 ∷ 0x93 ∷ 0x99 ∷ 0x9B ∷ 0xA1 ∷ 0xA3 ∷ 0xA9 ∷ 0xAB
     ∷ 0xB1 ∷ 0xB3 ∷ 0xB9 ∷ 0xBB ∷ 0xC1 ∷ 0xC3 ∷ 0xC9 ∷ 0xCB ∷ 0xD1 ∷ 0xD3 ∷ 0xD9 ∷ 0xDB ∷ 0xE1 ∷ 0xE3 ∷ []
 unfolding keepIf decode codes lookUp
-commands = refl
+commands-table = refl

@@ -1,36 +1,41 @@
--- The user's third demand. Lists of calls with the same deeds since the latest finished reset leave printers that answer and print alike.
+-- The user's third demand. Lists of calls with the same deeds since the latest finished reset leave printers that answer and print alike; their Sense replies
+-- differ in five bytes at most.
 use Prim.Native.Nat.{ℕ}
 use mathlib.Core.Path.{_≡_, refl, ap, _∙_}
 use mathlib.Core.Bool.{true, false}
 use mathlib.Core.List.{List, [], _∷_}
-use Rattle.numbers.specs.declared.Sense.{Sense}
+use lib.ListN.{take, drop}
+use Rattle.numbers.specs.Sizes.{senseSize}
 use Rattle.numbers.specs.Numbers.{isAccepted}
 use Rattle.calls.specs.declared.Fixed.{Fixed}
 use Rattle.calls.specs.Core.{Stores, Core, World}
-use Rattle.calls.specs.Reset.{fresh}
-use Rattle.calls.specs.Effects.{Effect, refused}
-use Rattle.calls.specs.Calls.{Call, compose, doCompose, perform, effect, over, step}
+use Rattle.calls.specs.Commands.{issued, codes, lookUp, decode}
+use Rattle.calls.specs.Reset.{fresh, senseBytes}
+use Rattle.calls.specs.Effects.{Effect, refused, doControl, doCommand}
+use Rattle.calls.specs.Calls.{Call, compose, doCompose, perform, effect, over, step, command, lent}
 use Rattle.calls.specs.Start.{Asked, fixedBy, startRefusal, startWorld, startOutcome}
 use Rattle.calls.specs.Lists.{worldAfter, gives, sinceReset}
-use Rattle.calls.proofs.Refused.{by-outcome}
 use Rattle.calls.proofs.Accepted.{started-world}
+use Rattle.calls.proofs.Refused.{by-outcome}
 use Rattle.calls.proofs.SinceReset.{tracked}
 
--- The sense has no part in what calls leave, nor in what Compose writes.
-compose-front : (k : Core) (n : ℕ) (out : List ℕ) (s t : Sense)
-    → over (effect k (compose n out) .front s) out ≡ over (effect k (compose n out) .front t) out
-unfolding perform doCompose refused
-compose-front k n out s t = by-outcome (λ (e : Effect). over (e .front s) out ≡ over (e .front t) out) k (compose n out) (λ a. refl) (λ a. refl)
-
+-- The sense has no part in what calls leave. Where it has none in what an accepted call puts over its buffer, it has none in the buffer.
 pub after-alike : (v w : World) (cs : List Call) → v .core ≡ w .core → worldAfter v cs .core ≡ worldAfter w cs .core
 unfolding worldAfter step
 after-alike v w [] e = e
 after-alike v w (c ∷ cs) e = after-alike (step v c .world) (step w c .world) cs (ap (λ (k : Core). effect k c .core) e)
 
+buffer-alike : (v w : World) (c : Call) (f : List ℕ → List ℕ) → v .core ≡ w .core
+    → f (over (perform (v .core) c .front (v .sense)) (lent c)) ≡ f (over (perform (v .core) c .front (w .sense)) (lent c))
+    → f (step v c .buffer) ≡ f (step w c .buffer)
+unfolding step refused
+buffer-alike v w c f e h =
+    by-outcome (λ (x : Effect). f (over (x .front (v .sense)) (lent c)) ≡ f (over (x .front (w .sense)) (lent c))) (v .core) c (λ a. h) (λ a. refl)
+    ∙ ap (λ (k : Core). f (over (effect k c .front (w .sense)) (lent c))) e
+
 compose-alike : (v w : World) (n : ℕ) (out : List ℕ) → v .core ≡ w .core → step v (compose n out) .buffer ≡ step w (compose n out) .buffer
-unfolding step
-compose-alike v w n out e =
-    compose-front (v .core) n out (v .sense) (w .sense) ∙ ap (λ (k : Core). over (effect k (compose n out) .front (w .sense)) out) e
+unfolding perform doCompose
+compose-alike v w n out e = buffer-alike v w (compose n out) (λ l. l) e refl
 
 -- Two lists of calls, on printers v and w.
 pub record Alike (v w : World) (xs ys : List Call) : Type 0 where
@@ -69,3 +74,27 @@ unfolding startWorld
 demand-3 a m m′ xs ys e e′ p q =
     alike (fixedBy a) (startOutcome a m .world) (startOutcome a m′ .world) xs ys
     (ap (λ (w : World). w .core) (started-world a m e)) (ap (λ (w : World). w .core) (started-world a m′ e′)) p q
+
+-- Sense itself, on two printers that differ in their sense at most: the answers are equal, and the buffers except in bytes 0, 1, 2, 22 and 23.
+abbrev senseIo : List ℕ → List ℕ → Call
+senseIo r reply = command (issued 0x04 r reply)
+
+abbrev middle : List ℕ → List ℕ
+middle l = take 19 (drop 3 l)
+
+abbrev after : List ℕ → List ℕ
+after l = drop senseSize l
+
+pub record SenseAlike (v w : World) (r reply : List ℕ) : Type 0 where
+  pub answer : step v (senseIo r reply) .answer ≡ step w (senseIo r reply) .answer
+  pub middle : middle (step v (senseIo r reply) .buffer) ≡ middle (step w (senseIo r reply) .buffer)
+  pub after : after (step v (senseIo r reply) .buffer) ≡ after (step w (senseIo r reply) .buffer)
+
+pub sense-alike : (v w : World) (r reply : List ℕ) → v .core ≡ w .core → SenseAlike v w r reply
+unfolding step perform decode codes lookUp doCommand doControl senseBytes
+sense-alike v w r reply e =
+    record {
+      answer = ap (λ (k : Core). effect k (senseIo r reply) .answer) e;
+      middle = buffer-alike v w (senseIo r reply) (λ l. middle l) e refl;
+      after = buffer-alike v w (senseIo r reply) (λ l. after l) e refl;
+    }

@@ -4,8 +4,10 @@ use Prim.Native.Nat.{ℕ, _≤_, zero, suc}
 use mathlib.Core.Path.{_≡_, refl, ap, _∙_}
 use mathlib.Core.Bool.{Bool, true, false, not, _&&_, and-false, or-true}
 use mathlib.Core.List.{List, [], _∷_}
+use native.Mathlib.Omega.{arith}
 use lib.ListN.{length, length-replicate, getD, set, take}
 use lib.Dec.{lit≤, eqb}
+use lib.Seq.{length-take-le}
 use borrow.Author.Tests.{eqb-true, eq-eqb, leb-true, le-leb}
 use Rattle.seq.specs.Words.{every, when, firstOr, listed, padded}
 use Rattle.seq.proofs.Laws.{every-at, padded-take, padded-zero, cond-has, finally, also, every-of}
@@ -16,32 +18,30 @@ use Rattle.numbers.proofs.Laws.{sound-is}
 use Rattle.form.specs.declared.Layout.{Layout}
 use Rattle.form.specs.Form.{formLengths, fcbCheck, layoutOf, printable, startFcb, fcbSize, fcbNow, formsOf, formsInRange}
 use Rattle.form.proofs.FormLaws.{form-listed, fcb-fits, few-lines, some-line, start-sound}
-use Rattle.line.specs.Line.{startSlots, slotsInRange, serving, translated}
-use Rattle.line.proofs.LineLaws.{length-startTables, length-translated, length-lineCells, length-pageWritten, length-putSlot}
-use Rattle.copies.specs.Copies.{pairsOf, copiesOf, sequenceCheck, startCopies, copiesInRange, pairSize, numberCheck, withSequence, withReference}
-use Rattle.legends.specs.Legends.{noLegends}
-use Rattle.legends.proofs.LegendLaws.{none-ok, stored-size, stored-ok}
-use Rattle.calls.specs.declared.Fixed.{Fixed}
-use Rattle.calls.specs.declared.Sheet.{Sheet}
-use Rattle.calls.specs.declared.State.{State}
-use Rattle.calls.specs.Core.{Stores, Core, sizesOk, linesNow, P, laidOut, withState, withPage, withTables, withBlocked, withSlots, withCopies, withSheet}
-use Rattle.calls.specs.Premises.{Sizes, FormsGood, CopiesGood, SheetGood, FixedGood, Good}
-use Rattle.calls.specs.Contents.{lineOk, rangesOk, dueOk, markOk, coreOk}
-use Rattle.calls.specs.Reset.{blankSheet, noCells, resetState, resetStores, reset, fresh}
-use native.Mathlib.Omega.{arith}
-use lib.Seq.{length-take-le}
 use Rattle.movement.specs.declared.Motion.{Motion}
 use Rattle.movement.specs.declared.Moved.{Moved}
 use Rattle.movement.specs.Movement.{toTop}
 use Rattle.movement.proofs.MovementLaws.{down, over, Went, stays, goes, went}
 use Rattle.line.specs.declared.Slots.{Slots}
+use Rattle.line.specs.Line.{startSlots, slotsInRange, serving, translated}
+use Rattle.line.proofs.LineLaws.{length-startTables, length-translated, length-lineCells, length-pageWritten, length-putSlot}
 use Rattle.copies.specs.declared.Copies.{Copies}
+use Rattle.copies.specs.Copies.{pairsOf, copiesOf, sequenceCheck, startCopies, copiesInRange, pairSize, numberCheck, withSequence, withReference}
 use Rattle.copies.proofs.CopiesLaws.{table-long, sequence-fits, number-some}
+use Rattle.legends.specs.Legends.{noLegends}
+use Rattle.legends.proofs.LegendLaws.{none-ok, stored-size, stored-ok}
+use Rattle.calls.specs.declared.Fixed.{Fixed}
+use Rattle.calls.specs.declared.Sheet.{Sheet}
+use Rattle.calls.specs.declared.State.{State}
 use Rattle.calls.specs.declared.Load.{Load}
 use Rattle.calls.specs.declared.Load.the-variants.{Fcb, TranslateTable, CopyModification, OverlaySequence, CopyNumber}
+use Rattle.calls.specs.Core.{Stores, Core, sizesOk, linesNow, P, laidOut, withState, withPage, withTables, withBlocked, withSlots, withCopies, withSheet}
+use Rattle.calls.specs.Contents.{lineOk, rangesOk, dueOk, markOk, coreOk}
+use Rattle.calls.specs.Reset.{blankSheet, noCells, resetState, resetStores, reset, fresh}
 use Rattle.calls.specs.Effects.{movedSheet, movedCore, moveOf, marked, written, loadCheck, atLine1, slotLoaded, slotSelected, loaded}
 use Rattle.calls.specs.Calls.{emptied}
 use Rattle.calls.specs.Start.{Asked, fixedBy, startRefusal, startWorld}
+use Rattle.calls.specs.Premises.{Sizes, FormsGood, CopiesGood, SheetGood, FixedGood, Good, Free}
 use Rattle.calls.proofs.Accepted.{startable}
 
 -- They are just the contents that get no 9.
@@ -75,19 +75,8 @@ good k e =
 pub ok : (k : Core) → Good k → coreOk k ≡ true
 unfolding coreOk rangesOk every isSound
 ok k g =
-    rw (
-      sizes-ok (k .stores) (g .sizes),
-      g .fixed,
-      g .forms .range,
-      g .slots,
-      g .copies .range,
-      line-ok (P (k .state)) (k .state .sheet) (g .sheet .low) (g .sheet .high),
-      g .sheet .due,
-      g .sheet .mark,
-      g .forms .sound,
-      g .copies .sound,
-      g .legends,
-    )
+    let x = g .sheet in
+    rw (sizes-ok _ (g .sizes), g .fixed, g .forms .range, g .slots, g .copies .range, line-ok _ (k .state .sheet) (x .low) (x .high), x .due, x .mark, g .forms .sound, g .copies .sound, g .legends)
 
 -- Forms control that its load takes is kept as it was sent, and has a line 1.
 pub forms-now : (r : List ℕ) → fcbNow (formsOf r) ≡ r
@@ -107,34 +96,22 @@ pub blank-good : (p l : ℕ) → 1 ≤ l → l ≤ p → SheetGood p (blankSheet
 unfolding blankSheet dueOk markOk
 blank-good p l a b = record { low = a; high = b; due = refl; mark = refl }
 
-start-copies : CopiesGood startCopies
-unfolding startCopies copiesInRange sequenceCheck pairsOf copiesOf every padded firstOr when
-start-copies = record { range = refl; sound = refl }
-
-start-slots : slotsInRange startSlots ≡ true
-unfolding startSlots slotsInRange every
-start-slots = refl
-
 pub no-cells : length noCells ≡ pageSize
 unfolding noCells
 no-cells = length-replicate {A = ℕ} pageSize 0
 
-no-legends : length noLegends ≡ legendSize
-unfolding noLegends
-no-legends = length-replicate {A = ℕ} legendSize 0
-
 -- A reset leaves such contents, and so do Start and a finished reset.
 module _ (f : Fixed) (blocked : Bool) (page : List ℕ) (e : FixedGood f) (size : length page ≡ pageSize) where
   pub reset-good : Good (record { state = resetState f blocked; stores = resetStores page })
-  unfolding resetState resetStores linesNow
+  unfolding resetState resetStores linesNow noLegends startSlots slotsInRange startCopies copiesInRange sequenceCheck pairsOf copiesOf every padded firstOr when
   reset-good =
       let l : listed formLengths (f .length) ≡ true = form-listed (f .length) (f .pitches) e in
       record {
-        sizes = record { page = size; legends = no-legends; tables = length-startTables };
+        sizes = record { page = size; legends = length-replicate {A = ℕ} legendSize 0; tables = length-startTables };
         fixed = e;
         forms = forms-good (f .length) (startFcb (f .length)) l (start-sound (f .length) l);
-        slots = start-slots;
-        copies = start-copies;
+        slots = refl;
+        copies = record { range = refl; sound = refl };
         sheet = blank-good _ 1 (lit≤ tt) (forms-line (f .length) (startFcb (f .length)) l (start-sound (f .length) l));
         legends = none-ok;
       }
@@ -171,7 +148,7 @@ unfolding linesNow
 with-copies c g h = search
 
 -- A write, and a movement, while no page waits.
-pub good-write : {k : Core} (r : List ℕ) → Good k → k .state .sheet .waiting ≡ false → length r ≤ lineWidth → Good (written k r)
+pub good-write : {k : Core} (r : List ℕ) → Good k → Free k → length r ≤ lineWidth → Good (written k r)
 unfolding written marked markOk dueOk
 good-write {k} r g w h =
     let s = g .sheet in
@@ -189,7 +166,7 @@ went-on a b (stays l n e) = (omega arith, omega arith)
 went-on a b (goes l (down f h i)) = (omega arith, i)
 went-on a b (goes l (over f h i)) = (h, i)
 
-moved-good : {k : Core} (due : Bool) (m : Moved) → Good k → k .state .sheet .waiting ≡ false → (1 ≤ m .line) × (m .line ≤ P (k .state)) → Good (movedCore due k m)
+moved-good : {k : Core} (due : Bool) (m : Moved) → Good k → Free k → (1 ≤ m .line) × (m .line ≤ P (k .state)) → Good (movedCore due k m)
 unfolding movedSheet dueOk markOk
 moved-good {k} due m g w h =
     let s = k .state .sheet in
@@ -199,11 +176,11 @@ moved-good {k} due m g w h =
     (λ t. record { low = h .0; high = h .1; due = or-true (not due); mark = refl }))
     (g .sizes .page)
 
-pub good-move : {k : Core} (m : Moved) → Good k → k .state .sheet .waiting ≡ false → Went (P (k .state)) (k .state .sheet .line) m → Good (movedCore false k m)
+pub good-move : {k : Core} (m : Moved) → Good k → Free k → Went (P (k .state)) (k .state .sheet .line) m → Good (movedCore false k m)
 good-move m g w h = moved-good false m g w (went-on (g .sheet .low) (g .sheet .high) h)
 
 -- A page completed by Clear or Initialize; the reset; a page released.
-pub good-complete : {k : Core} (due : Bool) → Good k → k .state .sheet .waiting ≡ false → Good (movedCore due k toTop)
+pub good-complete : {k : Core} (due : Bool) → Good k → Free k → Good (movedCore due k toTop)
 unfolding toTop
 good-complete due g w = moved-good due toTop g w (lit≤ tt, omega (arith, g .sheet .low, g .sheet .high))
 

@@ -11,6 +11,7 @@ use lib.Dec.{eqb, lit≤}
 use borrow.Author.Tests.{eqb-true, not-false}
 use Rattle.seq.proofs.Laws.{or-left, length-padded}
 use Rattle.numbers.specs.declared.Checked.the-variants.{Sound}
+use Rattle.numbers.specs.Numbers.{numberOf, isAccepted}
 use Rattle.form.specs.Form.{startFcb, fcbSize, formsOf}
 use Rattle.form.proofs.FormLaws.{form-listed, fcb-fits, start-sound}
 use Rattle.movement.specs.declared.Moved.{Moved}
@@ -25,21 +26,20 @@ use Rattle.calls.specs.declared.Load.{Load}
 use Rattle.calls.specs.declared.Load.the-variants.{Fcb, TranslateTable, CopyModification, OverlaySequence, CopyNumber}
 use Rattle.calls.specs.Core.{Core, World, started, Stores}
 use Rattle.calls.specs.Reset.{blankSheet, noCells, resetState, resetStores, reset}
-use Rattle.calls.specs.Effects.{movedSheet, marked, written, loadCheck, atLine1, slotLoaded, slotSelected, loaded}
+use Rattle.calls.specs.Effects.{movedSheet, marked, written, loadCheck, slotLoaded, slotSelected, loaded}
 use Rattle.calls.specs.Calls.{Call, emptied, effect, step}
-use Rattle.calls.specs.Lists.{worldAfter}
-use Rattle.calls.specs.Premises.{FixedGood, Good, Sized}
-use Rattle.calls.proofs.Answers.{Free, names}
-use Rattle.calls.proofs.Changes.{Unused, Changes, preserved, preserved-list}
-use Rattle.calls.proofs.Good.{good-write, good-move, good-complete, good-reset, good-block, good-select, good-load, good-empty, ok, start-good}
-use Rattle.numbers.specs.Numbers.{numberOf, isAccepted}
 use Rattle.calls.specs.Start.{Asked, startRefusal, startWorld, startOutcome}
+use Rattle.calls.specs.Premises.{FixedGood, Good, Sized, Free}
+use Rattle.calls.specs.Lists.{worldAfter}
 use Rattle.calls.proofs.Accepted.{started-world}
 use Rattle.calls.proofs.Refused.{no-9}
+use Rattle.calls.proofs.Answers.{names, untouched}
+use Rattle.calls.proofs.Good.{good-write, good-move, good-complete, good-reset, good-block, good-select, good-load, good-empty, ok, start-good}
+use Rattle.calls.proofs.Changes.{Unused, Survives, preserved, preserved-list}
 
 -- Contents that a printer can have.
-good-changes : Changes Good
-good-changes =
+good-survives : Survives Good
+good-survives =
     record {
       write = λ r g f h q. good-write r g f h;
       move = λ m g f h q. good-move m g f h;
@@ -52,10 +52,10 @@ good-changes =
     }
 
 pub good-call : (k : Core) (c : Call) → Good k → Good (effect k c .core)
-good-call = preserved good-changes
+good-call = preserved good-survives
 
 pub good-calls : (w : World) (cs : List Call) → Good (w .core) → Good (worldAfter w cs .core)
-good-calls = preserved-list good-changes
+good-calls = preserved-list good-survives
 
 -- After an accepted Start no call ever gets 9.
 pub never-9 : (a : Asked) (m : Stores) (cs : List Call) (c : Call) → isAccepted (startRefusal a m) ≡ true
@@ -68,17 +68,9 @@ never-9 a m cs c e =
 abbrev pub Fixes : Fixed → Core → Type 0
 Fixes f k = k .state .fixed ≡ f
 
-load-fixes : (k : Core) (l : Load) (r : List ℕ) → loaded k l r .state .fixed ≡ k .state .fixed
-unfolding loaded
-load-fixes k Fcb r = refl
-load-fixes k TranslateTable r = refl
-load-fixes k CopyModification r = refl
-load-fixes k OverlaySequence r = refl
-load-fixes k CopyNumber r = refl
-
-fixes-changes : (f : Fixed) → Changes (Fixes f)
+fixes-survives : (f : Fixed) → Survives (Fixes f)
 unfolding written reset resetState emptied
-fixes-changes f =
+fixes-survives f =
     record {
       write = λ r g f h q. q;
       move = λ m g f h q. q;
@@ -86,12 +78,12 @@ fixes-changes f =
       reset = λ g f u q. q;
       block = λ b g q. q;
       select = λ n g h q. q;
-      load = λ {k} l r g u e h q. load-fixes k l r ∙ q;
+      load = λ {k} l r g u e h q. untouched k l r .fixed ∙ q;
       empty = λ g q. q;
     }
 
 pub fixed-call : (f : Fixed) (k : Core) (c : Call) → Fixes f k → Fixes f (effect k c .core)
-fixed-call f = preserved (fixes-changes f)
+fixed-call f = preserved (fixes-survives f)
 
 -- The lengths of the arrays. A reset sets them anew; what a load takes fits its array.
 pub reset-sized : (f : Fixed) (blocked : Bool) → FixedGood f → length (f .pitches) ≡ 4 → Sized (resetState f blocked)
@@ -116,9 +108,9 @@ load-sized CopyModification r g e z = z
 load-sized OverlaySequence r g e z = let fits = length-padded pairSize r (sequence-fits r e) in search
 load-sized CopyNumber r g e z = search
 
-sized-changes : Changes (λ k. Sized (k .state))
+sized-survives : Survives (λ k. Sized (k .state))
 unfolding written reset emptied slotSelected
-sized-changes =
+sized-survives =
     record {
       write = λ r g f h q. search;
       move = λ m g f h q. search;
@@ -131,10 +123,10 @@ sized-changes =
     }
 
 pub sized-call : (k : Core) (c : Call) → Sized (k .state) → Sized (effect k c .core .state)
-sized-call = preserved sized-changes
+sized-call = preserved sized-survives
 
 pub sized-calls : (w : World) (cs : List Call) → Sized (w .core .state) → Sized (worldAfter w cs .core .state)
-sized-calls = preserved-list sized-changes
+sized-calls = preserved-list sized-survives
 
 -- A page that is neither started nor waiting is all 00.
 abbrev pub BlankSheet : Sheet → List ℕ → Type 0
@@ -145,10 +137,6 @@ Blank k = BlankSheet (k .state .sheet) (k .stores .page)
 
 -- A write marks the page as started. A movement that goes nowhere leaves the sheet; one that goes down the form leaves line 1; one that goes over P
 -- leaves a page waiting.
-marked-started : (s : Sheet) → started (marked s) ≡ true
-unfolding started marked
-marked-started s = or-true (not (eqb (s .line) 1))
-
 blank-moved : (s : Sheet) (m : Moved) (page : List ℕ) (p : ℕ) → 1 ≤ s .line → Went p (s .line) m → BlankSheet s page → BlankSheet (movedSheet false s m) page
 unfolding movedSheet started
 blank-moved s m page p l (stays n e c) h w u =
@@ -164,28 +152,20 @@ unfolding reset resetState resetStores blankSheet
 blank-reset k f (inl u) h w′ u′ = h f u
 blank-reset k f (inr e) h w′ u′ = e
 
--- A load comes to a page that is not started.
-blank-load : (k : Core) (l : Load) (r : List ℕ) → started (k .state .sheet) ≡ false → Blank k → Blank (loaded k l r)
-unfolding loaded atLine1
-blank-load k Fcb r u h = λ w u′. h w u
-blank-load k TranslateTable r u h = h
-blank-load k CopyModification r u h = h
-blank-load k OverlaySequence r u h = h
-blank-load k CopyNumber r u h = h
-
-blank-changes : Changes Blank
-unfolding written movedSheet toTop emptied
-blank-changes =
+-- A completed page waits; a load comes to a page that is not started.
+blank-survives : Survives Blank
+unfolding written marked started movedSheet toTop emptied
+blank-survives =
     record {
-      write = λ {k} r g f h q w u. absurd (true≢false (sym (marked-started (k .state .sheet)) ∙ u));
+      write = λ {k} r g f h q w u. absurd (true≢false (sym (or-true (not (eqb (k .state .sheet .line) 1))) ∙ u));
       move = λ {k} m g f h q. blank-moved (k .state .sheet) m (k .stores .page) _ (g .sheet .low) h q;
       complete = λ due g f q w u. absurd (true≢false w);
       reset = λ {k} g f u q. blank-reset k f u q;
       block = λ b g q. q;
       select = λ n g h q. q;
-      load = λ {k} l r g u e h q. blank-load k l r u q;
+      load = λ {k} l r g u e h q w u′. untouched k l r .page ∙ q (sym (untouched k l r .waiting) ∙ w) u;
       empty = λ g q w u. refl;
     }
 
 pub blank-call : (k : Core) (c : Call) → Blank k → Blank (effect k c .core)
-blank-call = preserved blank-changes
+blank-call = preserved blank-survives

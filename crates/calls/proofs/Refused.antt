@@ -1,4 +1,4 @@
--- Document 01, "Numbers": a number is given exactly when the table says, and a refused call changes nothing but the sense shown.
+-- Document 01, "Numbers": a number is given exactly when the table says, and a refused call changes nothing except the sense shown.
 use Prim.Native.Nat.{ℕ, _≤_}
 use mathlib.Core.Path.{_≡_, refl, ap, _∙_}
 use mathlib.Core.Bool.{Bool, true, false, not, _&&_, and-false}
@@ -81,13 +81,13 @@ not-given n k release nine other =
     number-not n _ BadStore _ nine
     (number-not n _ NoPage [] (inr (not-true _ (every-at 6 _ other))) (number-none n (not-true _ (every-at 0 _ other))))
 
-never-10 : (k : Core) (c : Call) → eqb (numberOf (refusalOf k c)) 10 ≡ false
-unfolding every
-never-10 k c = not-given 10 k c (inr refl) refl
-
 pub no-9 : (k : Core) (c : Call) → coreOk k ≡ true → eqb (numberOf (refusalOf k c)) 9 ≡ false
 unfolding every
 no-9 k c e = not-given 9 k c (inl (ap not e)) refl
+
+never-10 : (k : Core) (c : Call) → eqb (numberOf (refusalOf k c)) 10 ≡ false
+unfolding every
+never-10 k c = not-given 10 k c (inr refl) refl
 
 pub never-11 : (k : Core) (c : Call) → eqb (numberOf (refusalOf k c)) 11 ≡ false
 unfolding every
@@ -142,7 +142,7 @@ pub nine : (w : World) (c : Call) → coreOk (w .core) ≡ false → step w c �
 unfolding isAccepted rowOf
 nine w c e = refused-step w c (ap isAccepted (bad-store (w .core) c e)) ∙ rw (bad-store (w .core) c e)
 
--- A refused Start hands back a state of all zeros and leaves the stores; every call but Start refuses that state with 9, whatever the stores.
+-- A refused Start hands back a state of all zeros and leaves the stores; every call except Start refuses that state with 9, whatever the stores.
 pub refused-start : (a : Asked) (m : Stores) → isAccepted (startRefusal a m) ≡ false
     → startOutcome a m ≡ record { answer = only (startRefusal a m) (rowOf 0 (startRefusal a m) .status); buffer = []; world = noPrinter m }
 unfolding startOutcome

@@ -1,34 +1,39 @@
 -- Document 01, "Rows for the table": R1 to R12 and rows of our own, one table, proved by computation.
-use Prim.Native.Nat.{ℕ}
+use Prim.Native.Nat.{ℕ, _+_, _*_, _-_}
 use mathlib.Core.Path.{_≡_, refl}
 use mathlib.Core.Bool.{Bool, true, false}
 use mathlib.Core.List.{List, [], _∷_, _++_, map, flatten, zipWith}
-use lib.ListN.{replicate}
-use Rattle.seq.specs.Words.{zeros, when, firstOr, every, padded}
+use lib.ListN.{length, replicate}
+use Rattle.seq.specs.Words.{from, zeros, when, firstOr, every, padded}
+use Rattle.numbers.specs.Sizes.{lineWidth, lineBytes, pageSize, legendSize, slotSize, tableSize, senseSize}
 use Rattle.numbers.specs.declared.Sense.{Sense}
 use Rattle.numbers.specs.declared.Answer.{Answer}
 use Rattle.numbers.specs.declared.Cause.the-variants.{FcbSpacing, FcbSum, SequenceCounts, SegmentFields}
 use Rattle.numbers.specs.declared.Refusal.{Refusal}
-use Rattle.numbers.specs.declared.Refusal.the-variants.{Accepted, LoadCheck, PageWaiting, PageStarted}
+use Rattle.numbers.specs.declared.Refusal.the-variants.{Accepted, LoadCheck, PageWaiting, PageStarted, BadForm}
 use Rattle.numbers.specs.Numbers.{sense3, noSense, causeOf, rowOf, isAccepted, checked, isSound}
-use Rattle.calls.specs.declared.Sheet.{Sheet}
-use Rattle.calls.specs.Core.{Stores, World, sizesOk, linesNow, started}
-use Rattle.calls.specs.Calls.{Call, command, compose, release, Outcome, checkOf, movement, refusalOf, copyAt, doCompose, emptied, released, doRelease, perform, effect, step}
-use Rattle.form.specs.Form.{formLengths, pitchesListed, pitchesOk, formOk, unitsOf, runsFrom, runs, unitsTotal, linesWhere, printable, edges, fcbCheck, layoutCheck, layoutOf, channelAt, startFcb, formsOf, formsInRange}
+use Rattle.form.specs.declared.Forms.{Forms}
+use Rattle.form.specs.Form.{formLengths, pitchesListed, pitchesOk, formOk, unitsOf, runsFrom, runs, unitsTotal, linesWhere, printable, edges, fcbCheck, layoutCheck, layoutOf, channelAt, startFcb, fcbSize, formsOf, formsInRange}
 use Rattle.movement.specs.Movement.{entered, round, upToFirst, spaced, skipped, moved, still, toTop}
+use Rattle.line.specs.declared.Slots.{Slots}
 use Rattle.line.specs.Line.{slotAt, putSlot, isLoaded, serving, unprintable, standIn, cellOf, translated, anyUnprintable, lineCells, mergeRules, mergeCell, collides, mergeLine, anyCollides, lineAt, putLine, pageWritten, noCauses, lineCauses, orUnmatched, causeByte, startTable, startTables, startSlots, slotsInRange}
-use Rattle.copies.specs.Copies.{tableCheck, pairsOf, copiesOf, sequenceCheck, markIn, numberCheck, withSequence, withReference, startCopies, copyCount, copyNumber, copyMark, copiesInRange}
+use Rattle.copies.specs.declared.Copies.{Copies}
+use Rattle.copies.specs.Copies.{pairSize, tableCheck, pairsOf, copiesOf, sequenceCheck, markIn, numberCheck, withSequence, withReference, startCopies, copyCount, copyNumber, copyMark, copiesInRange}
 use Rattle.legends.specs.Legends.{segmentOf, badHead, cut, segments, legendCheck, storedLegends, legendText, storedSegments, legendsOk, noLegends, covers, shown, copyFrom, composed}
+use Rattle.calls.specs.declared.Sheet.{Sheet}
+use Rattle.calls.specs.declared.State.{State}
+use Rattle.calls.specs.Core.{Stores, World, withBlocked, withForms, withSlots, withCopies, sizesOk, linesNow, started}
 use Rattle.calls.specs.Commands.{issued, codes, lookUp, decode, controlTraits, traitsOf}
 use Rattle.calls.specs.Contents.{lineOk, rangesOk, dueOk, markOk, coreOk}
 use Rattle.calls.specs.Reset.{blankSheet, noCells, resetState, resetStores, reset, fresh, byte3, senseBytes}
 use Rattle.calls.specs.Effects.{refused, done, movedSheet, moveOf, doMove, marked, written, writeCauses, doWrite, loadCheck, atLine1, slotLoaded, slotSelected, loaded, loadCauses, doLoad, completing, doControl, doCommand}
+use Rattle.calls.specs.Calls.{Call, command, compose, release, checkOf, movement, refusalOf, copyAt, doCompose, emptied, released, doRelease, perform, effect, step}
 use Rattle.calls.specs.Start.{asked, startRefusal, startWorld, noState, noPrinter, startOutcome}
 use Rattle.calls.specs.Lists.{Deed, commanded, wasReleased, worldAfter, counts, readOf, deedOf, finishesReset, copiesOfPage, given, sinceNow, note, sinceOver, sinceReset}
 
 -- A printer started over stores full of other bytes, with these pitches on the 3½ inch form; R1 to R12 have all four pitches 10.
 abbrev old : Stores
-old = record { page = replicate 26928 5; legends = replicate 8192 6; tables = replicate 1024 7 }
+old = record { page = replicate pageSize 5; legends = replicate legendSize 6; tables = replicate tableSize 7 }
 
 abbrev begun : List ℕ → World
 begun ps = startOutcome (asked 84 ps) old .world
@@ -36,195 +41,273 @@ begun ps = startOutcome (asked 84 ps) old .world
 abbrev tens : List ℕ
 tens = replicate 4 10
 
--- What is seen after a list of calls: the whole of the last answer and its buffer, the sense, the sheet, the copies, the whole page.
-pub record Seen : Type 0 where
-  pub answer : Answer
-  pub buffer : List ℕ
-  pub sense : Sense
-  pub sheet : Sheet
-  pub copies : ℕ
-  pub page : List ℕ
-
-abbrev seenOf : Outcome → Seen
-seenOf o =
-    let k = o .world .core in
-    record { answer = o .answer; buffer = o .buffer; sense = o .world .sense; sheet = k .state .sheet; copies = copyCount (k .state .copies); page = k .stores .page }
-
+-- A row: calls from Start on, every answer to them, the last one's buffer, and all that they leave. What is seen of the calls is to be the row itself.
 pub record Row : Type 0 where
-  pub pitches : List ℕ
-  pub before : List Call
-  pub last : Call
-  pub want : Seen
+  pub calls : List Call
+  pub answers : List Answer
+  pub buffer : List ℕ
+  pub world : World
 
-abbrev see : Row → Seen
-see r = seenOf (step (worldAfter (begun (r .pitches)) (r .before)) (r .last))
+unfoldable pub ran : Row → List Call → Row
+ran r [] = r
+ran r (c ∷ cs) =
+    let o = step (r .world) c in
+    ran (record { calls = r .calls ++ (c ∷ []); answers = r .answers ++ (o .answer ∷ []); buffer = o .buffer; world = o .world }) cs
 
--- Calls: a command alone, one with a record, Compose into an output of just the form's 15 lines.
+abbrev see : Row → Row
+see r = ran (record { calls = []; answers = []; buffer = []; world = begun (r .world .core .state .fixed .pitches) }) (r .calls)
+
+-- Calls: a command alone, one with a record, Sense into a buffer of a byte too many, Compose into an output of just the form's 15 lines.
 abbrev cmd : ℕ → Call
 cmd b = command (issued b [] [])
 
 abbrev with : ℕ → List ℕ → Call
 with b r = command (issued b r [])
 
-abbrev copy : ℕ → Call
-copy n = compose n (zeros 3060)
+abbrev senseIo : Call
+senseIo = command (issued 0x04 [] (replicate (senseSize + 1) 9))
 
--- Answers: refusal, status, page ready, lines moved; and Compose's copy number and mark.
+abbrev copySize : ℕ
+copySize = lineBytes * 15
+
+abbrev copy : ℕ → Call
+copy n = compose n (zeros copySize)
+
+-- Answers: refusal, status, page ready, lines moved; Compose's copy number and mark; most often, 0C alone, or a page completed; a Release's.
 abbrev says : Refusal → ℕ → Bool → ℕ → Answer
 says x s r n = record { refusal = x; status = s; ready = r; lines = n; copy = 0; mark = 0 }
 
 abbrev copied : ℕ → ℕ → Answer
 copied n m = record { refusal = Accepted; status = 0; ready = false; lines = 0; copy = n; mark = m }
 
--- Sheets: the form at a line; line 1 written; a page waiting with the form at a line.
+abbrev fine : Answer
+fine = says Accepted 0x0C false 0
+
+abbrev completes : ℕ → Answer
+completes n = says Accepted 0x0C true n
+
+abbrev freed : Answer
+freed = says Accepted 0 false 0
+
+-- Bytes with 00 after them, n in all.
+abbrev filled : ℕ → List ℕ → List ℕ
+filled n l = l ++ zeros (n - length l)
+
+-- Parts of a state: forms control, slot 0 loaded and one selected, an overlay sequence of one pair and the copy number, the sheet.
+abbrev fcb : List ℕ → Forms
+fcb l = record { fcb = filled fcbSize l; count = length l }
+
+abbrev slot : ℕ → Slots
+slot n = record { loaded = true ∷ false ∷ false ∷ false ∷ []; selected = n }
+
+abbrev pair : ℕ → ℕ → ℕ → Copies
+pair n m r = record { pairs = filled pairSize (n ∷ m ∷ []); count = 2; reference = r }
+
+abbrev sheet : ℕ → Bool → Bool → Bool → Sheet
+sheet l x w d = record { line = l; written = x; waiting = w; due = d }
+
 abbrev at : ℕ → Sheet
-at l = record { line = l; written = false; waiting = false; due = false }
+at l = sheet l false false false
 
 abbrev writing : Sheet
-writing = record { line = 1; written = true; waiting = false; due = false }
+writing = sheet 1 true false false
 
 abbrev waiting : ℕ → Sheet
-waiting l = record { line = l; written = false; waiting = true; due = false }
+waiting l = sheet l false true false
 
--- Pages and copies by their first cells.
-abbrev page : List ℕ → ℕ → List ℕ
-page cells rest = cells ++ zeros rest
+-- What Start leaves, written out; and with another sheet.
+abbrev pitched : List ℕ → Sheet → State
+pitched ps x = record { fixed = record { length = 84; pitches = ps }; blocked = false; forms = fcb (zeros 3 ++ 1 ∷ zeros 17); slots = slot 0; copies = pair 1 0 1; sheet = x }
 
-abbrev noPage : List ℕ
-noPage = zeros 26928
+abbrev on : Sheet → State
+on x = pitched tens x
 
--- Rows that end with the form at line 1 of a page with nothing on it; with line 1 written; with a page completed.
-abbrev on-blank : List Call → Call → Refusal → ℕ → Sense → ℕ → Row
-on-blank before last x status s n =
-    record { pitches = tens; before = before; last = last; want = record { answer = says x status false 0; buffer = []; sense = s; sheet = at 1; copies = n; page = noPage } }
+abbrev table0 : List ℕ
+table0 = replicate 64 0xFF ++ from 0 64 ++ from 0 64 ++ from 0 64
 
-abbrev on-line : List Call → Call → ℕ → Sense → List ℕ → Row
-on-line before last status s p =
-    record { pitches = tens; before = before; last = last; want = record { answer = says Accepted status false 0; buffer = []; sense = s; sheet = writing; copies = 1; page = p } }
+abbrev stores : List ℕ → List ℕ → List ℕ → Stores
+stores p l t = record { page = filled pageSize p; legends = filled legendSize l; tables = filled tableSize t }
 
-abbrev on-done : List Call → Call → ℕ → ℕ → Sense → List ℕ → Row
-on-done before last status n s p =
-    record { pitches = tens; before = before; last = last; want = record { answer = says Accepted status true n; buffer = []; sense = s; sheet = waiting 1; copies = 1; page = p } }
+-- A page by its first cells, with no legends; and with a legend.
+abbrev page : List ℕ → Stores
+page p = stores p [] table0
 
--- Rows that compose a copy of a page that Clear completed.
-abbrev on-copy : List Call → ℕ → ℕ → ℕ → ℕ → List ℕ → List ℕ → Row
-on-copy before index number mark n p out =
-    record { pitches = tens; before = before; last = copy index; want = record { answer = copied number mark; buffer = out; sense = noSense; sheet = waiting 1; copies = n; page = p } }
+abbrev legend : List ℕ → List ℕ → Stores
+legend l p = stores p l table0
 
-abbrev r12 : List Call
-r12 = with 0x43 (2 ∷ 0 ∷ []) ∷ with 0x35 (2 ∷ 1 ∷ 1 ∷ 1 ∷ 0xCC ∷ 1 ∷ 0xC1 ∷ []) ∷ with 0x01 (0xC2 ∷ []) ∷ cmd 0x87 ∷ []
+abbrev row : List Call → List Answer → List ℕ → Sense → State → Stores → Row
+row calls answers buffer sense s m = record { calls = calls; answers = answers; buffer = buffer; world = record { core = record { state = s; stores = m }; sense = sense } }
+
+-- A row whose calls before the last all get 0C.
+abbrev after : List Call → Call → Answer → Sense → State → Stores → Row
+after cs c a = row (cs ++ (c ∷ [])) (replicate (length cs) fine ++ (a ∷ [])) []
+
+-- A line of C2 with 01 in its last cell.
+abbrev legended : List ℕ
+legended = 2 ∷ zeros (lineWidth - 2) ++ (1 ∷ [])
+
+-- Legends on copy 2 of two copies, and a line of C2 on a page that Clear completes.
+abbrev r12 : ℕ → List ℕ → Row
+r12 n out =
+    row (with 0x43 (2 ∷ 0 ∷ []) ∷ with 0x35 (2 ∷ 1 ∷ 1 ∷ 1 ∷ 0xCC ∷ 1 ∷ 0xC1 ∷ []) ∷ with 0x01 (0xC2 ∷ []) ∷ cmd 0x87 ∷ copy n ∷ [])
+    (fine ∷ fine ∷ fine ∷ completes 0 ∷ copied n 0 ∷ []) (filled copySize out) noSense (withCopies (on (waiting 1)) (pair 2 0 1))
+    (legend (2 ∷ 1 ∷ 1 ∷ 1 ∷ 0xCC ∷ 1 ∷ 1 ∷ []) (2 ∷ []))
 
 -- R1 to R12.
 unfoldable pub rows : List Row
 rows =
     -- R1
-    on-line [] (with 0x01 (0xC1 ∷ [])) 0x0C noSense (page (1 ∷ []) 26927)
+    after [] (with 0x01 (0xC1 ∷ [])) fine noSense (on writing) (page (1 ∷ []))
     -- R2
-    ∷ on-line (with 0x01 (0xC1 ∷ []) ∷ []) (with 0x01 (0xC2 ∷ [])) 0x0E (sense3 0x08 0x08 0) (page (1 ∷ []) 26927)
-    ∷ on-line (cmd 0x73 ∷ with 0x01 (0xC1 ∷ []) ∷ []) (with 0x01 (0xC2 ∷ [])) 0x0C noSense (page (1 ∷ []) 26927)
+    ∷ after (with 0x01 (0xC1 ∷ []) ∷ []) (with 0x01 (0xC2 ∷ [])) (says Accepted 0x0E false 0) (sense3 0x08 0x08 0) (on writing) (page (1 ∷ []))
+    ∷ after (cmd 0x73 ∷ with 0x01 (0xC1 ∷ []) ∷ []) (with 0x01 (0xC2 ∷ [])) fine noSense (withBlocked (on writing) true) (page (1 ∷ []))
     -- R3
-    ∷ on-line (with 0x01 (0xC1 ∷ []) ∷ []) (with 0x01 (0x6D ∷ [])) 0x0C noSense (page (1 ∷ []) 26927)
+    ∷ after (with 0x01 (0xC1 ∷ []) ∷ []) (with 0x01 (0x6D ∷ [])) fine noSense (on writing) (page (1 ∷ []))
     -- R4
-    ∷ on-line [] (with 0x01 (0x3F ∷ [])) 0x0E (sense3 0x08 0x80 0) noPage
+    ∷ after [] (with 0x01 (0x3F ∷ [])) (says Accepted 0x0E false 0) (sense3 0x08 0x80 0) (on writing) (page [])
     -- R5
-    ∷ record { pitches = tens; before = replicate 13 (cmd 0x0B); last = cmd 0x0B; want = record { answer = says Accepted 0x0C false 1; buffer = []; sense = noSense; sheet = at 15; copies = 1; page = noPage } }
-    ∷ on-done (replicate 13 (cmd 0x0B)) (cmd 0x1B) 0x0C 2 noSense noPage
+    ∷ row (replicate 14 (cmd 0x0B)) (replicate 14 (says Accepted 0x0C false 1)) [] noSense (on (at 15)) (page [])
+    ∷ row (replicate 13 (cmd 0x0B) ++ (cmd 0x1B ∷ [])) (replicate 13 (says Accepted 0x0C false 1) ++ (completes 2 ∷ [])) [] noSense (on (waiting 1)) (page [])
     -- R6
-    ∷ on-done [] (cmd 0x8B) 0x0C 15 noSense noPage
+    ∷ after [] (cmd 0x8B) (completes 15) noSense (on (waiting 1)) (page [])
     -- R7
-    ∷ on-done [] (cmd 0x93) 0x0E 15 (sense3 0x08 0x10 0) noPage
+    ∷ after [] (cmd 0x93) (says Accepted 0x0E true 15) (sense3 0x08 0x10 0) (on (waiting 1)) (page [])
     -- R8
-    ∷ on-line (cmd 0x57 ∷ []) (with 0x01 (0xC1 ∷ [])) 0x0E (sense3 0x08 0x20 0) (page (1 ∷ []) 26927)
+    ∷ after (cmd 0x57 ∷ []) (with 0x01 (0xC1 ∷ [])) (says Accepted 0x0E false 0) (sense3 0x08 0x20 0) (withSlots (on writing) (slot 1)) (page (1 ∷ []))
     -- R9
-    ∷ on-blank [] (with 0x63 (zeros 20)) (LoadCheck FcbSpacing) 0x0E (sense3 0x02 0x40 0) 1
-    ∷ on-blank [] (with 0x63 (zeros 18)) (LoadCheck FcbSum) 0x0E (record { b0 = 0x02; b1 = 0x08; b2 = 0; b22 = 0; b23 = 0x12 }) 1
-    ∷ on-blank [] (with 0x63 (zeros 21)) Accepted 0x0C noSense 1
+    ∷ after [] (with 0x63 (zeros 20)) (says (LoadCheck FcbSpacing) 0x0E false 0) (sense3 0x02 0x40 0) (on (at 1)) (page [])
+    ∷ after [] (with 0x63 (zeros 18)) (says (LoadCheck FcbSum) 0x0E false 0) (record { b0 = 0x02; b1 = 0x08; b2 = 0; b22 = 0; b23 = 0x12 }) (on (at 1)) (page [])
+    ∷ after [] (with 0x63 (zeros 21)) fine noSense (withForms (on (at 1)) (fcb (zeros 21))) (page [])
     -- R10
-    ∷ on-blank [] (with 0x35 (1 ∷ 1 ∷ 1 ∷ 1 ∷ 0xCC ∷ 1 ∷ 0xC1 ∷ [])) Accepted 0x0C noSense 1
-    ∷ on-blank [] (with 0x35 (1 ∷ 1 ∷ 1 ∷ 1 ∷ 0xCD ∷ 1 ∷ 0xC1 ∷ [])) (LoadCheck SegmentFields) 0x0E (sense3 0x02 0 0x20) 1
+    ∷ after [] (with 0x35 (1 ∷ 1 ∷ 1 ∷ 1 ∷ 0xCC ∷ 1 ∷ 0xC1 ∷ [])) fine noSense (on (at 1)) (legend (1 ∷ 1 ∷ 1 ∷ 1 ∷ 0xCC ∷ 1 ∷ 1 ∷ []) [])
+    ∷ after [] (with 0x35 (1 ∷ 1 ∷ 1 ∷ 1 ∷ 0xCD ∷ 1 ∷ 0xC1 ∷ [])) (says (LoadCheck SegmentFields) 0x0E false 0) (sense3 0x02 0 0x20) (on (at 1)) (page [])
     -- R11
-    ∷ on-blank [] (with 0x43 (2 ∷ 0 ∷ [])) Accepted 0x0C noSense 2
-    ∷ on-blank [] (with 0x43 (0 ∷ 0 ∷ [])) (LoadCheck SequenceCounts) 0x0E (sense3 0x02 0 0x10) 1
+    ∷ after [] (with 0x43 (2 ∷ 0 ∷ [])) fine noSense (withCopies (on (at 1)) (pair 2 0 1)) (page [])
+    ∷ after [] (with 0x43 (0 ∷ 0 ∷ [])) (says (LoadCheck SequenceCounts) 0x0E false 0) (sense3 0x02 0 0x10) (on (at 1)) (page [])
     -- R12
-    ∷ on-copy r12 1 1 0 2 (page (2 ∷ []) 26927) (page (2 ∷ []) 3059)
-    ∷ on-copy r12 2 2 0 2 (page (2 ∷ []) 26927) (2 ∷ zeros 202 ++ page (1 ∷ []) 2856)
+    ∷ r12 1 (2 ∷ [])
+    ∷ r12 2 legended
     ∷ []
 
--- Two copies from number 5 on, with mark 1; a legend on number 6; a line of C2.
+-- Two copies from number 5 on, with mark 1; a legend on number 6; a line of C2. And what is left of them, with a page that waits.
 abbrev fromFive : List Call
 fromFive = with 0x43 (2 ∷ 1 ∷ []) ∷ with 0x23 (5 ∷ []) ∷ with 0x35 (6 ∷ 1 ∷ 1 ∷ 1 ∷ 0xCC ∷ 1 ∷ 0xC1 ∷ []) ∷ with 0x01 (0xC2 ∷ []) ∷ []
 
-abbrev channels : Call
-channels = with 0x63 (zeros 3 ++ 1 ∷ 9 ∷ 0x0C ∷ zeros 15)
+abbrev composing : Call → Bool → ℕ → ℕ → List ℕ → Row
+composing c due n number out =
+    row (fromFive ++ (c ∷ copy n ∷ [])) (replicate 4 fine ++ (completes 0 ∷ copied number 1 ∷ [])) (filled copySize out) noSense
+    (withCopies (on (sheet 1 false true due)) (pair 2 1 5)) (legend (6 ∷ 1 ∷ 1 ∷ 1 ∷ 0xCC ∷ 1 ∷ 1 ∷ []) (2 ∷ []))
+
+-- Channels 9 and 12 on lines 2 and 3; channel 5 on line 5.
+abbrev channels : List ℕ
+channels = zeros 3 ++ 1 ∷ 9 ∷ 0x0C ∷ zeros 15
+
+abbrev channel5 : List ℕ
+channel5 = zeros 3 ++ 1 ∷ zeros 3 ++ 5 ∷ zeros 13
+
+-- Sense after these calls: their answers, byte 3 of the reply, and what is left.
+abbrev sensing : List Call → List Answer → ℕ → State → Row
+sensing cs answers byte3 s = row (cs ++ (senseIo ∷ [])) (answers ++ (fine ∷ [])) (0 ∷ 0 ∷ 0 ∷ byte3 ∷ zeros (senseSize - 4) ++ (9 ∷ [])) noSense s (page [])
+
+-- A table for pitches 10 0 0 10: the code for 40 is of module 3, that for C1 of module 1, which is not fitted, all others 00.
+abbrev someTable : List ℕ
+someTable = zeros 64 ++ 0xC5 ∷ zeros 128 ++ (0x41 ∷ [])
 
 -- Rows of our own, for rules that R1 to R12 leave unseen.
 unfoldable pub ours : List Row
 ours =
+    -- Start alone.
+    row [] [] [] noSense (on (at 1)) (page [])
     -- A segment covers by copy number, not by copy index.
-    on-copy (fromFive ++ (cmd 0x87 ∷ [])) 1 5 1 2 (page (2 ∷ []) 26927) (page (2 ∷ []) 3059)
-    ∷ on-copy (fromFive ++ (cmd 0x87 ∷ [])) 2 6 1 2 (page (2 ∷ []) 26927) (2 ∷ zeros 202 ++ page (1 ∷ []) 2856)
+    ∷ composing (cmd 0x87) false 1 5 (2 ∷ [])
+    ∷ composing (cmd 0x87) false 2 6 legended
     -- Initialize leaves the legends of the page that it has just completed; after its Release they are gone, with sequence and number.
-    ∷ record { pitches = tens; before = fromFive ++ (cmd 0x37 ∷ []); last = copy 2; want = record { answer = copied 6 1; buffer = 2 ∷ zeros 202 ++ page (1 ∷ []) 2856; sense = noSense; sheet = record { line = 1; written = false; waiting = true; due = true }; copies = 2; page = page (2 ∷ []) 26927 } }
-    ∷ on-copy (fromFive ++ (cmd 0x37 ∷ release ∷ with 0x01 (0xC3 ∷ []) ∷ cmd 0x87 ∷ [])) 1 1 0 1 (page (3 ∷ []) 26927) (page (3 ∷ []) 3059)
-    -- A reset forgets the selection.
-    ∷ on-line (cmd 0x57 ∷ cmd 0x37 ∷ []) (with 0x01 (0xC1 ∷ [])) 0x0C noSense (page (1 ∷ []) 26927)
+    ∷ composing (cmd 0x37) true 2 6 legended
+    ∷ row (fromFive ++ (cmd 0x37 ∷ release ∷ with 0x01 (0xC3 ∷ []) ∷ cmd 0x87 ∷ copy 1 ∷ [])) (replicate 4 fine ++ (completes 0 ∷ freed ∷ fine ∷ completes 0 ∷ copied 1 0 ∷ []))
+    (filled copySize (3 ∷ [])) noSense (on (waiting 1)) (page (3 ∷ []))
+    -- A reset forgets the selection, and keeps the check switch; so does the reset that a Release does.
+    ∷ after (cmd 0x57 ∷ cmd 0x37 ∷ []) (with 0x01 (0xC1 ∷ [])) fine noSense (on writing) (page (1 ∷ []))
+    ∷ after (cmd 0x73 ∷ cmd 0x37 ∷ []) (with 0x01 (0x3F ∷ [])) fine noSense (withBlocked (on writing) true) (page [])
+    ∷ row (cmd 0x73 ∷ with 0x01 (0xC1 ∷ []) ∷ cmd 0x37 ∷ release ∷ with 0x01 (0x3F ∷ []) ∷ []) (fine ∷ fine ∷ completes 0 ∷ freed ∷ fine ∷ []) [] noSense
+    (withBlocked (on writing) true) (page [])
+    -- Release keeps the line to which a skip has led.
+    ∷ row (with 0x63 channel5 ∷ cmd 0x13 ∷ cmd 0x1B ∷ cmd 0xAB ∷ release ∷ []) (fine ∷ says Accepted 0x0C false 2 ∷ says Accepted 0x0C false 3 ∷ completes 14 ∷ freed ∷ []) [] noSense
+    (withForms (on (at 5)) (fcb channel5)) (page [])
     -- Copy numbers and segments run up to 509, unreduced, with the mark of the copy's pair.
-    ∷ on-copy (with 0x43 (0xFE ∷ 0 ∷ 1 ∷ 1 ∷ []) ∷ with 0x23 (0xFF ∷ []) ∷ with 0x35 (0xFF ∷ 0xFF ∷ 1 ∷ 1 ∷ 1 ∷ 1 ∷ 0xC1 ∷ []) ∷ with 0x01 (0xC2 ∷ []) ∷ cmd 0x87 ∷ []) 255 509 1 255 (page (2 ∷ []) 26927) (page (1 ∷ []) 3059)
+    ∷ row (with 0x43 (0xFE ∷ 0 ∷ 1 ∷ 1 ∷ []) ∷ with 0x23 (0xFF ∷ []) ∷ with 0x35 (0xFF ∷ 0xFF ∷ 1 ∷ 1 ∷ 1 ∷ 1 ∷ 0xC1 ∷ []) ∷ with 0x01 (0xC2 ∷ []) ∷ cmd 0x87 ∷ copy 255 ∷ [])
+    (replicate 4 fine ++ (completes 0 ∷ copied 509 1 ∷ [])) (filled copySize (1 ∷ [])) noSense
+    (withCopies (on (waiting 1)) (record { pairs = filled pairSize (0xFE ∷ 0 ∷ 1 ∷ 1 ∷ []); count = 4; reference = 0xFF })) (legend (0xFF ∷ 0xFF ∷ 1 ∷ 1 ∷ 1 ∷ 1 ∷ 1 ∷ []) (2 ∷ []))
     -- The last segment that covers a cell wins, with a blank too.
-    ∷ on-copy (with 0x35 (1 ∷ 1 ∷ 1 ∷ 1 ∷ 1 ∷ 2 ∷ 0xC1 ∷ 0xC2 ∷ 1 ∷ 1 ∷ 1 ∷ 1 ∷ 2 ∷ 1 ∷ 0x40 ∷ []) ∷ with 0x01 (0xC3 ∷ 0xC3 ∷ []) ∷ cmd 0x87 ∷ []) 1 1 0 1 (page (3 ∷ 3 ∷ []) 26926) (page (1 ∷ 0 ∷ []) 3058)
+    ∷ row (with 0x35 (1 ∷ 1 ∷ 1 ∷ 1 ∷ 1 ∷ 2 ∷ 0xC1 ∷ 0xC2 ∷ 1 ∷ 1 ∷ 1 ∷ 1 ∷ 2 ∷ 1 ∷ 0x40 ∷ []) ∷ with 0x01 (0xC3 ∷ 0xC3 ∷ []) ∷ cmd 0x87 ∷ copy 1 ∷ []) (fine ∷ fine ∷ completes 0 ∷ copied 1 0 ∷ [])
+    (filled copySize (1 ∷ [])) noSense (on (waiting 1)) (legend (1 ∷ 1 ∷ 1 ∷ 1 ∷ 1 ∷ 2 ∷ 1 ∷ 2 ∷ 1 ∷ 1 ∷ 1 ∷ 1 ∷ 2 ∷ 1 ∷ 0 ∷ []) (3 ∷ 3 ∷ []))
     -- The page after a Release begins empty and is a page of its own.
-    ∷ on-copy (with 0x09 (0xC1 ∷ []) ∷ with 0x09 (0xC1 ∷ []) ∷ cmd 0x87 ∷ release ∷ with 0x01 (0xC2 ∷ []) ∷ cmd 0x87 ∷ []) 1 1 0 1 (page (2 ∷ []) 26927) (page (2 ∷ []) 3059)
+    ∷ row (with 0x09 (0xC1 ∷ []) ∷ with 0x09 (0xC1 ∷ []) ∷ cmd 0x87 ∷ release ∷ with 0x01 (0xC2 ∷ []) ∷ cmd 0x87 ∷ copy 1 ∷ [])
+    (says Accepted 0x0C false 1 ∷ says Accepted 0x0C false 1 ∷ completes 0 ∷ freed ∷ fine ∷ completes 0 ∷ copied 1 0 ∷ []) (filled copySize (2 ∷ [])) noSense (on (waiting 1)) (page (2 ∷ []))
     -- A line that is left takes its mark with it.
-    ∷ record {
-      pitches = tens;
-      before = [];
-      last = with 0x09 (0xC1 ∷ []);
-      want = record { answer = says Accepted 0x0C false 1; buffer = []; sense = noSense; sheet = at 2; copies = 1; page = page (1 ∷ []) 26927 };
-    }
+    ∷ after [] (with 0x09 (0xC1 ∷ [])) (says Accepted 0x0C false 1) noSense (on (at 2)) (page (1 ∷ []))
     -- A load on a started page is refused and has not moved the form.
-    ∷ record { pitches = tens; before = cmd 0x0B ∷ []; last = with 0x63 (zeros 21); want = record { answer = says PageStarted 0x0E false 0; buffer = []; sense = sense3 0x02 0 0; sheet = at 2; copies = 1; page = noPage } }
+    ∷ row (cmd 0x0B ∷ with 0x63 (zeros 21) ∷ []) (says Accepted 0x0C false 1 ∷ says PageStarted 0x0E false 0 ∷ []) [] (sense3 0x02 0 0) (on (at 2)) (page [])
     -- Page waiting comes before a record that is too long, and keeps the sense.
-    ∷ record { pitches = tens; before = cmd 0x93 ∷ []; last = with 0x01 (zeros 205); want = record { answer = says PageWaiting 0x10 false 0; buffer = []; sense = sense3 0x08 0x10 0; sheet = waiting 1; copies = 1; page = noPage } }
+    ∷ row (cmd 0x93 ∷ with 0x01 (zeros (lineWidth + 1)) ∷ []) (says Accepted 0x0E true 15 ∷ says PageWaiting 0x10 false 0 ∷ []) [] (sense3 0x08 0x10 0) (on (waiting 1)) (page [])
     -- Causes of a write and of its skip are joined; Block hides 80 and 08 alone.
-    ∷ on-done (cmd 0x57 ∷ with 0x01 (0xC1 ∷ []) ∷ []) (with 0x91 (0xC2 ∷ 0x3F ∷ [])) 0x0E 15 (sense3 0x08 0xB8 0) (page (1 ∷ []) 26927)
-    ∷ on-done (cmd 0x73 ∷ cmd 0x57 ∷ with 0x01 (0xC1 ∷ []) ∷ []) (with 0x91 (0xC2 ∷ 0x3F ∷ [])) 0x0E 15 (sense3 0x08 0x30 0) (page (1 ∷ []) 26927)
+    ∷ row (cmd 0x57 ∷ with 0x01 (0xC1 ∷ []) ∷ with 0x91 (0xC2 ∷ 0x3F ∷ []) ∷ []) (fine ∷ says Accepted 0x0E false 0 ∷ says Accepted 0x0E true 15 ∷ []) [] (sense3 0x08 0xB8 0)
+    (withSlots (on (waiting 1)) (slot 1)) (page (1 ∷ []))
+    ∷ row (cmd 0x73 ∷ cmd 0x57 ∷ with 0x01 (0xC1 ∷ []) ∷ with 0x91 (0xC2 ∷ 0x3F ∷ []) ∷ []) (fine ∷ fine ∷ says Accepted 0x0E false 0 ∷ says Accepted 0x0E true 15 ∷ []) [] (sense3 0x08 0x30 0)
+    (withBlocked (withSlots (on (waiting 1)) (slot 1)) true) (page (1 ∷ []))
     -- Channels 9 and 12 are reported on lines that a space enters, and not by a skip.
-    ∷ record { pitches = tens; before = channels ∷ []; last = cmd 0x13; want = record { answer = says Accepted 0x0F false 2; buffer = []; sense = sense3 0x01 0 0; sheet = at 3; copies = 1; page = noPage } }
-    ∷ record { pitches = tens; before = channels ∷ []; last = cmd 0xCB; want = record { answer = says Accepted 0x0C false 1; buffer = []; sense = noSense; sheet = at 2; copies = 1; page = noPage } }
+    ∷ after (with 0x63 channels ∷ []) (cmd 0x13) (says Accepted 0x0F false 2) (sense3 0x01 0 0) (withForms (on (at 3)) (fcb channels)) (page [])
+    ∷ after (with 0x63 channels ∷ []) (cmd 0xCB) (says Accepted 0x0C false 1) noSense (withForms (on (at 2)) (fcb channels)) (page [])
     -- A code of a module not fitted gets the table's code for 40, and so does the fill.
-    ∷ record { pitches = 10 ∷ 0 ∷ 0 ∷ 10 ∷ []; before = with 0x83 (zeros 64 ++ 0xC5 ∷ zeros 128 ++ page (0x41 ∷ []) 62) ∷ []; last = with 0x01 (0xC1 ∷ 0xC2 ∷ []); want = record { answer = says Accepted 0x0E false 0; buffer = []; sense = sense3 0x08 0x80 0; sheet = writing; copies = 1; page = page (0xC5 ∷ 0 ∷ replicate 202 0xC5) 26724 } }
+    ∷ after (with 0x83 (filled slotSize someTable) ∷ []) (with 0x01 (0xC1 ∷ 0xC2 ∷ [])) (says Accepted 0x0E false 0) (sense3 0x08 0x80 0) (pitched (10 ∷ 0 ∷ 0 ∷ 10 ∷ []) writing)
+    (stores (0xC5 ∷ 0 ∷ replicate (lineWidth - 2) 0xC5) [] someTable)
     -- Underscore then character, blank then code, code then blank, two underscores.
-    ∷ on-line (with 0x01 (0x6D ∷ 0x40 ∷ 0xC1 ∷ 0x6D ∷ []) ∷ []) (with 0x01 (0xC1 ∷ 0xC2 ∷ 0x40 ∷ 0x6D ∷ [])) 0x0C noSense (page (1 ∷ 2 ∷ 1 ∷ 0x2D ∷ []) 26924)
+    ∷ after (with 0x01 (0x6D ∷ 0x40 ∷ 0xC1 ∷ 0x6D ∷ []) ∷ []) (with 0x01 (0xC1 ∷ 0xC2 ∷ 0x40 ∷ 0x6D ∷ [])) fine noSense (on writing) (page (1 ∷ 2 ∷ 1 ∷ 0x2D ∷ []))
     -- Sense replies 24 bytes, then clears; the byte after them keeps its value.
-    ∷ record { pitches = tens; before = with 0x63 (zeros 18) ∷ []; last = command (issued 0x04 [] (replicate 25 9)); want = record { answer = says Accepted 0x0C false 0; buffer = 0x02 ∷ 0x08 ∷ 0 ∷ 0xC0 ∷ zeros 18 ++ (0 ∷ 0x12 ∷ 9 ∷ []); sense = noSense; sheet = at 1; copies = 1; page = noPage } }
+    ∷ row (with 0x63 (zeros 18) ∷ senseIo ∷ []) (says (LoadCheck FcbSum) 0x0E false 0 ∷ fine ∷ []) (0x02 ∷ 0x08 ∷ 0 ∷ 0xC0 ∷ zeros 18 ++ (0 ∷ 0x12 ∷ 9 ∷ [])) noSense (on (at 1)) (page [])
+    -- Byte 3 is 80, plus 40 when no page is started or waiting, plus 20 when Block is on.
+    ∷ sensing [] [] 0xC0 (on (at 1))
+    ∷ sensing (cmd 0x0B ∷ []) (says Accepted 0x0C false 1 ∷ []) 0x80 (on (at 2))
+    ∷ sensing (cmd 0x0B ∷ cmd 0x87 ∷ []) (says Accepted 0x0C false 1 ∷ completes 0 ∷ []) 0x80 (on (waiting 1))
+    ∷ sensing (cmd 0x73 ∷ []) (fine ∷ []) 0xE0 (withBlocked (on (at 1)) true)
     ∷ []
 
--- What counts since the latest finished reset, of lists with refused calls, No-Op, Sense and Compose among them: first since the Release
--- that did a reset with Block on, then since Start.
+-- A refused Start: all zeros, and the stores as they were.
+abbrev zeroState : State
+zeroState = record { fixed = record { length = 0; pitches = zeros 4 }; blocked = false; forms = fcb []; slots = record { loaded = replicate 4 false; selected = 0 }; copies = record { pairs = zeros pairSize; count = 0; reference = 0 }; sheet = at 0 }
+
+pub refused-start-table : startOutcome (asked 85 tens) old
+    ≡ record { answer = says BadForm 0 false 0; buffer = []; world = record { core = record { state = zeroState; stores = old }; sense = sense3 0 0 0 } }
+unfolding startOutcome startRefusal noPrinter noState sizesOk formOk formLengths every firstOr when isAccepted rowOf
+refused-start-table = refl
+
+-- What counts since the latest finished reset, of lists with refused calls, No-Op, Sense and Compose among them: since the Release that did a reset with
+-- Block on; since Start, with a Release that did no reset; since Initialize with Block on; since Start, with Initialize on a started page.
 pub record Counted : Type 0 where
   pub calls : List Call
   pub switch : Bool
   pub deeds : List Deed
 
+abbrev list : List Call → Bool → List Deed → Counted
+list calls switch deeds = record { calls = calls; switch = switch; deeds = deeds }
+
 unfoldable pub lists : List Counted
 lists =
-    record {
-      calls =
-          cmd 0x73 ∷ with 0x01 (0xC1 ∷ []) ∷ cmd 0xFF ∷ cmd 0x37 ∷ cmd 0x0B ∷ release ∷ release ∷ cmd 0x03 ∷ with 0x0B (1 ∷ []) ∷ with 0x63 (zeros 21)
-          ∷ cmd 0x7B ∷ command (issued 0x04 [] (zeros 24)) ∷ [];
-      switch = true;
-      deeds = commanded 0x0B [] ∷ commanded 0x7B [] ∷ [];
-    }
-    ∷ record {
-      calls = with 0x01 (0xC1 ∷ []) ∷ cmd 0x87 ∷ copy 1 ∷ cmd 0x0B ∷ release ∷ [];
-      switch = false;
-      deeds = commanded 0x01 (0xC1 ∷ []) ∷ commanded 0x87 [] ∷ wasReleased ∷ [];
-    }
+    list (cmd 0x73 ∷ with 0x01 (0xC1 ∷ []) ∷ cmd 0xFF ∷ cmd 0x37 ∷ cmd 0x0B ∷ release ∷ release ∷ cmd 0x03 ∷ with 0x0B (1 ∷ []) ∷ with 0x63 (zeros 21) ∷ cmd 0x7B ∷ senseIo ∷ [])
+    true (commanded 0x0B [] ∷ commanded 0x7B [] ∷ [])
+    ∷ list (with 0x43 (1 ∷ 1 ∷ []) ∷ with 0x01 (0xC1 ∷ []) ∷ cmd 0x87 ∷ copy 1 ∷ cmd 0x0B ∷ release ∷ [])
+    false (commanded 0x43 (1 ∷ 1 ∷ []) ∷ commanded 0x01 (0xC1 ∷ []) ∷ commanded 0x87 [] ∷ wasReleased ∷ [])
+    ∷ list (cmd 0x0B ∷ cmd 0x87 ∷ release ∷ cmd 0x73 ∷ with 0x37 (1 ∷ []) ∷ command (issued 0x7B (2 ∷ []) (3 ∷ [])) ∷ with 0x57 (4 ∷ []) ∷ [])
+    true (commanded 0x7B [] ∷ commanded 0x57 [] ∷ [])
+    ∷ list (with 0x01 (0xC1 ∷ []) ∷ cmd 0x37 ∷ []) false (commanded 0x01 (0xC1 ∷ []) ∷ commanded 0x37 [] ∷ [])
     ∷ []
 
 abbrev counted : Counted → Counted
 counted l = let s = sinceReset (begun tens) (l .calls) in record { calls = l .calls; switch = s .switch; deeds = s .deeds }
 
-pub table : (map see (rows ++ ours) ≡ map (λ r. r .want) (rows ++ ours)) × (map counted lists ≡ lists)
-unfolding rows ours lists flatten zipWith when firstOr every padded causeOf rowOf isAccepted checked isSound formLengths pitchesListed pitchesOk formOk unitsOf runsFrom runs unitsTotal linesWhere printable edges fcbCheck layoutCheck layoutOf channelAt startFcb formsOf formsInRange entered round upToFirst spaced skipped moved still toTop slotAt putSlot isLoaded serving unprintable standIn cellOf translated anyUnprintable lineCells mergeRules mergeCell collides mergeLine anyCollides lineAt putLine pageWritten noCauses lineCauses orUnmatched causeByte startTable startTables startSlots slotsInRange tableCheck pairsOf copiesOf sequenceCheck markIn numberCheck withSequence withReference startCopies copyCount copyNumber copyMark copiesInRange segmentOf badHead cut segments legendCheck storedLegends legendText storedSegments legendsOk noLegends covers shown copyFrom composed sizesOk linesNow started codes lookUp decode controlTraits traitsOf lineOk rangesOk dueOk markOk coreOk blankSheet noCells resetState resetStores reset fresh byte3 senseBytes refused done movedSheet moveOf doMove marked written writeCauses doWrite loadCheck atLine1 slotLoaded slotSelected loaded loadCauses doLoad completing doControl doCommand checkOf movement refusalOf copyAt doCompose emptied released doRelease perform effect step startRefusal startWorld noState noPrinter startOutcome worldAfter counts readOf deedOf finishesReset sinceNow note sinceOver sinceReset copiesOfPage given
-table = (refl, refl)
+-- Lists of calls go from the first call to the last.
+abbrev spaceThenClear : World
+spaceThenClear = worldAfter (begun tens) (cmd 0x0B ∷ cmd 0x87 ∷ [])
+
+pub table : (map see (rows ++ ours) ≡ rows ++ ours) × (map counted lists ≡ lists) × (spaceThenClear .core .state .sheet ≡ waiting 1)
+unfolding rows ours lists ran flatten zipWith when firstOr every padded causeOf rowOf isAccepted checked isSound formLengths pitchesListed pitchesOk formOk unitsOf runsFrom runs unitsTotal linesWhere printable edges fcbCheck layoutCheck layoutOf channelAt startFcb formsOf formsInRange entered round upToFirst spaced skipped moved still toTop slotAt putSlot isLoaded serving unprintable standIn cellOf translated anyUnprintable lineCells mergeRules mergeCell collides mergeLine anyCollides lineAt putLine pageWritten noCauses lineCauses orUnmatched causeByte startTable startTables startSlots slotsInRange tableCheck pairsOf copiesOf sequenceCheck markIn numberCheck withSequence withReference startCopies copyCount copyNumber copyMark copiesInRange segmentOf badHead cut segments legendCheck storedLegends legendText storedSegments legendsOk noLegends covers shown copyFrom composed sizesOk linesNow started codes lookUp decode controlTraits traitsOf lineOk rangesOk dueOk markOk coreOk blankSheet noCells resetState resetStores reset fresh byte3 senseBytes refused done movedSheet moveOf doMove marked written writeCauses doWrite loadCheck atLine1 slotLoaded slotSelected loaded loadCauses doLoad completing doControl doCommand checkOf movement refusalOf copyAt doCompose emptied released doRelease perform effect step startRefusal startWorld noState noPrinter startOutcome worldAfter counts readOf deedOf finishesReset sinceNow note sinceOver sinceReset copiesOfPage given
+table = (refl, refl, refl)

@@ -1,9 +1,9 @@
 -- Demand 3, the ground: after a finished reset a printer is a function of what Start fixed and the switch, and each later one is what the deeds since
 -- then, done again on it, leave.
-use borrow.Author.Tests.{not-true}
 use mathlib.Core.Path.{_≡_, refl, sym, ap, _∙_}
 use mathlib.Core.Bool.{Bool, true, false, not, true≢false, false≢true}
 use mathlib.Core.List.{List, [], _∷_, _++_, map}
+use borrow.Author.Tests.{not-true}
 use Rattle.seq.specs.Words.{every, firstOr}
 use Rattle.seq.proofs.Laws.{every-at}
 use Rattle.numbers.specs.declared.Refusal.the-variants.{Accepted}
@@ -17,6 +17,7 @@ use Rattle.calls.specs.Commands.{Issued, issued, decode, controlTraits, 
 use Rattle.calls.specs.Reset.{blankSheet, noCells, resetState, resetStores, reset, fresh}
 use Rattle.calls.specs.Effects.{Effect, refused, done, completing, doControl, doCommand}
 use Rattle.calls.specs.Calls.{Call, command, compose, release, commandTests, checkOf, refusalOf, doCompose, emptied, released, doRelease, perform, effect, step}
+use Rattle.calls.specs.Premises.{Free}
 use Rattle.calls.specs.Lists.{worldAfter, counts, Deed, commanded, wasReleased, readOf, deedOf, finishesReset, Given, given, gives, Since, sinceNow, note, sinceOver, sinceReset}
 use Rattle.calls.proofs.Accepted.{allowed}
 use Rattle.calls.proofs.Refused.{accepted-effect, by-outcome}
@@ -85,10 +86,6 @@ again k (command i) e = again-command k i (not-true _ (every-at 1 _ e)) (every-a
 again k (compose n out) e = absurd (false≢true e)
 again k release e = refl
 
-again-given : (k : Core) (c : Call) → counts k c ≡ true → given k (callOf (deedOf c)) ≡ given k c
-unfolding given
-again-given k c e = rw (again k c e)
-
 -- A finished reset leaves a printer that depends on form, pitches and switch alone.
 is-initialize : (c : Command) → traitsOf c .resets ≡ true → c ≡ Controls Initialize
 unfolding traitsOf controlTraits
@@ -119,7 +116,7 @@ finished k (command i) h e =
     let a : isAccepted (refusalOf k (command i)) ≡ true = every-at 0 _ (every-at 0 _ e) in
     let q : traitsOf (decode (i .byte)) .quiet ≡ false = not-true _ (every-at 1 _ (every-at 0 _ e)) in
     let u : started (k .state .sheet) ≡ false = not-true _ (every-at 2 _ e) in
-    let w : k .state .sheet .waiting ≡ false = was-free q (allowed k i a .free) in
+    let w : Free k = was-free q (allowed k i a .free) in
     ap (λ (x : Effect). x .core) (accepted-effect k (command i) a)
     ∙ ap (λ (c : Command). doCommand k c i .core) (is-initialize (decode (i .byte)) (every-at 1 _ e))
     ∙ initialized k i u (h w u)
@@ -127,9 +124,9 @@ finished k (compose n out) h e = absurd (false≢true e)
 finished k release h e = ap (λ (x : Effect). x .core) (accepted-effect k release (every-at 0 _ e)) ∙ released-due k (every-at 1 _ e)
 
 -- after which no page waits
-pub finished-waits : (k : Core) (c : Call) → Blank k → finishesReset k c ≡ true → effect k c .core .state .sheet .waiting ≡ false
+pub finished-free : (k : Core) (c : Call) → Blank k → finishesReset k c ≡ true → Free (effect k c .core)
 unfolding fresh resetState blankSheet
-finished-waits k c h e = ap (λ (x : Core). x .state .sheet .waiting) (finished k c h e)
+finished-free k c h e = ap (λ (x : Core). x .state .sheet .waiting) (finished k c h e)
 
 -- Deeds done again, and what they give.
 pub redo : Core → List Deed → Core
@@ -157,7 +154,7 @@ pub record Tracks (f : Fixed) (k : Core) (s : Since) : Type 0 where
   pub blank : Blank k
 
 track-note : (f : Fixed) (k : Core) (s : Since) (c : Call) → Tracks f k s → Tracks f (effect k c .core) (note k s c)
-unfolding note sinceNow redo gives
+unfolding note sinceNow redo gives given
 track-note f k s c t = go (finishesReset k c) refl (counts k c) refl
   where
     go : (p : Bool) → finishesReset k c ≡ p → (q : Bool) → counts k c ≡ q → Tracks f (effect k c .core) (note k s c)
@@ -173,7 +170,7 @@ track-note f k s c t = go (finishesReset k c) refl (counts k c) refl
         rw (ep, eq)
         (record {
           core = rw (redo-one, ← t .core, again k c eq);
-          gave = rw (redone-one, ← t .gave, ← t .core, again-given k c eq);
+          gave = rw (redone-one, ← t .gave, ← t .core, again k c eq);
           fixed = fixed-call f k c (t .fixed);
           blank = blank-call k c (t .blank);
         })

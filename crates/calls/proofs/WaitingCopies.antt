@@ -1,14 +1,14 @@
 -- Demand 3: the copies that it compares are those that Compose shows of a page that waits.
-use borrow.Author.Tests.{not-true}
-use Prim.Native.Nat.{ℕ, zero, suc, _+_, _-_, _≤_, _<_}
+use Prim.Native.Nat.{ℕ, _+_, _-_, _≤_}
 use mathlib.Core.Path.{_≡_, refl, sym, ap, _∙_}
 use mathlib.Core.Bool.{Bool, true, false, cond, not, _&&_, true≢false, false≢true}
-use mathlib.Core.List.{List, [], _∷_, _++_, map}
+use mathlib.Core.List.{List, [], _∷_, _++_}
 use native.Mathlib.Omega.{arith}
-use native.Mathlib.Nat.{not-suc-le-zero, le-of-suc-le-suc}
 use lib.ListN.{getD}
+use borrow.Author.Tests.{not-true}
 use Rattle.seq.specs.Words.{lastOr, from}
-use Rattle.seq.proofs.Laws.{every-at}
+use Rattle.seq.proofs.Laws.{every-at, length-from, getD-from}
+use Rattle.seq.proofs.Loops.{getD-map}
 use Rattle.numbers.specs.declared.Refusal.the-variants.{Accepted}
 use Rattle.numbers.specs.Numbers.{isAccepted, only}
 use Rattle.copies.specs.Copies.{copyCount}
@@ -16,14 +16,14 @@ use Rattle.calls.specs.declared.Fixed.{Fixed}
 use Rattle.calls.specs.Core.{Core, World}
 use Rattle.calls.specs.Commands.{decode, traitsOf}
 use Rattle.calls.specs.Reset.{blankSheet, resetState, resetStores, fresh}
-use Rattle.calls.specs.Effects.{Effect}
 use Rattle.calls.specs.Calls.{Call, command, compose, release, refusalOf, doCompose, doRelease, perform, effect, over, step, Copy, copyAt}
+use Rattle.calls.specs.Premises.{Free}
 use Rattle.calls.specs.Lists.{worldAfter, counts, finishesReset, copiesOfPage, Given, given, gives, Since, sinceNow, note, sinceOver, sinceReset}
 use Rattle.calls.proofs.Accepted.{allowed}
 use Rattle.calls.proofs.Refused.{accepted-effect}
-use Rattle.calls.proofs.Answers.{ready-exactly, was-free, released-waits}
+use Rattle.calls.proofs.Answers.{ready-exactly, was-free, released-free}
 use Rattle.calls.proofs.Invariants.{Blank, blank-call}
-use Rattle.calls.proofs.SinceReset.{idle-core, finished-waits}
+use Rattle.calls.proofs.SinceReset.{idle-core, finished-free}
 
 -- What `gives` lists is what the calls, made one after the other, answer and leave.
 pub gives-steps : (w : World) (c : Call) (cs : List Call)
@@ -44,7 +44,7 @@ pub compose-gives : (w : World) (n : ℕ) (out : List ℕ) → isAccepted (refus
 unfolding step perform doCompose copyAt
 compose-gives w n out e = rw (accepted-effect (w .core) (compose n out) e)
 
--- While a page waits nothing but its Release counts, so that its copies stay.
+-- While a page waits only its Release counts, so that its copies stay.
 pub page-stays : (k : Core) (c : Call) → k .state .sheet .waiting ≡ true → counts k c ≡ true → c ≡ release
 unfolding counts
 page-stays k (command i) w e =
@@ -63,27 +63,20 @@ last-one : (d : Given) (l : List Given) (x : Given) → lastOr d (l ++ (x ∷ []
 last-one d [] x = refl
 last-one d (y ∷ l) x = last-one y l x
 
-after-release : (k : Core) → counts k release ≡ true → effect k release .core .state .sheet .waiting ≡ false
+after-release : (k : Core) (c : Call) → c ≡ release → counts k c ≡ true → Free (effect k c .core)
 unfolding counts perform doRelease
-after-release k a = ap (λ (x : Effect). x .core .state .sheet .waiting) (accepted-effect k release a) ∙ released-waits k
-
-is-release : (k : Core) (c : Call) → c ≡ release → counts k c ≡ true → effect k c .core .state .sheet .waiting ≡ false
-is-release k c e a = ap (λ (x : Call). effect k x .core .state .sheet .waiting) e ∙ after-release k (sym (ap (counts k) e) ∙ a)
-
-given-page : (k : Core) (c : Call) → effect k c .answer .ready ≡ true → given k c .page ≡ copiesOfPage (effect k c .core)
-unfolding given
-given-page k c e = rw e
+after-release k c e a = rw e (rw (accepted-effect k release (rw e at a)) (released-free k))
 
 shown-note : (k : Core) (s : Since) (c : Call) → Blank k → Shown k s → Shown (effect k c .core) (note k s c)
-unfolding note
+unfolding note given
 shown-note k s c z h = go (finishesReset k c) refl (counts k c) refl (k .state .sheet .waiting) refl
   where
     go : (p : Bool) → finishesReset k c ≡ p → (q : Bool) → counts k c ≡ q → (w : Bool) → k .state .sheet .waiting ≡ w → Shown (effect k c .core) (note k s c)
-    go true ep q eq w ew v = absurd (false≢true (sym (finished-waits k c z ep) ∙ v))
-    go false ep true eq true ew v = absurd (false≢true (sym (is-release k c (page-stays k c ew eq) eq) ∙ v))
+    go true ep q eq w ew v = absurd (false≢true (sym (finished-free k c z ep) ∙ v))
+    go false ep true eq true ew v = absurd (false≢true (sym (after-release k c (page-stays k c ew eq) eq) ∙ v))
     go false ep true eq false ew v =
         let r : effect k c .answer .ready ≡ true = ready-exactly k c ∙ ap (λ (x : Bool). not x && effect k c .core .state .sheet .waiting) ew ∙ v in
-        rw (ep, eq) (ap (λ (g : Given). g .page) (last-one nothingYet (s .gave) (given k c)) ∙ given-page k c r)
+        rw (ep, eq, last-one, r)
     go false ep false eq w ew v =
         let i : effect k c .core ≡ k = idle-core k c eq in
         rw (ep, eq, i) (h (sym (ap (λ (x : Core). x .state .sheet .waiting) i) ∙ v))
@@ -100,11 +93,8 @@ waiting-copies f blocked w cs e =
     (λ v. absurd (false≢true (sym (ap (λ (k : Core). k .state .sheet .waiting) e) ∙ v)))
 
 -- The nth of them is copy n.
-at-from : (g : ℕ → Copy) (a n i : ℕ) (d : Copy) → i < n → getD (map g (from a n)) i d ≡ g (a + i)
-at-from g a zero i d h = absurd (not-suc-le-zero h)
-at-from g a (suc n) zero d h = ap g (omega arith)
-at-from g a (suc n) (suc i) d h = at-from g (suc a) n i d (le-of-suc-le-suc h) ∙ ap g (omega arith)
-
 pub copy-at : (k : Core) (n : ℕ) (d : Copy) → 1 ≤ n → n ≤ copyCount (k .state .copies) → getD (copiesOfPage k) (n - 1) d ≡ copyAt k n
 unfolding copiesOfPage
-copy-at k n d l h = at-from (copyAt k) 1 (copyCount (k .state .copies)) (n - 1) d (omega arith) ∙ ap (copyAt k) (omega arith)
+copy-at k n d l h =
+    let m = copyCount (k .state .copies) in
+    getD-map (copyAt k) 0 d (n - 1) (from 1 m) (rw length-from (omega arith)) ∙ ap (copyAt k) (getD-from 1 (n - 1) m (omega arith) ∙ omega arith)

@@ -1,4 +1,4 @@
--- Document 01, "Calls" and "Numbers": the calls but Start, their refusals in order, and one step.
+-- Document 01, "Calls" and "Numbers": the calls except Start, their refusals in order, and one step.
 use Prim.Native.Nat.{ℕ, _+_, _*_}
 use mathlib.Core.Bool.{Bool, false, cond, not, _&&_, _||_}
 use mathlib.Core.Option.{Option}
@@ -156,7 +156,7 @@ pub record Outcome : Type 0 where
   pub buffer : List ℕ
   pub world : World
 
--- Calls: what an effect comes to, under the sense and over the buffer that a call finds.
+-- Calls: the outcome of an effect, by the sense and the buffer that its call finds.
 abbrev pub outcomeOf : Sense → List ℕ → Effect → Outcome
 outcomeOf s buffer e =
     record { answer = e .answer; buffer = over (e .front s) buffer; world = record { core = e .core; sense = senseAfter s (e .sense) } }

@@ -36,7 +36,7 @@ unfoldable pub lookUp : List (ℕ × Command) → ℕ → Command
 lookUp [] b = Unlisted
 lookUp (c ∷ cs) b = let rest = lookUp cs b in cond (eqb (c .0) b) (c .1) rest
 
--- Skips, with nnnn from 1 to 12: a write is 1nnnn001, immediate is 1nnnn011. So 83, where nnnn is 0, is no skip but the translate load.
+-- Skips, with nnnn from 1 to 12: a write is 1nnnn001, immediate is 1nnnn011. So 83, where nnnn is 0, is no skip: it is the translate load.
 abbrev pub nnnn : ℕ → ℕ
 nnnn b = b / 8 % 16
 

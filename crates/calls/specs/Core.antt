@@ -27,7 +27,7 @@ storesOf page legends tables = record { page = page; legends = legends; tables =
 unfoldable pub sizesOk : Stores → Bool
 sizesOk m = every (eqb (length (m .page)) pageSize ∷ eqb (length (m .legends)) legendSize ∷ eqb (length (m .tables)) tableSize ∷ [])
 
--- Calls: all but the sense, and all. No call but Sense reads the sense, so that what a call does is a function of the core.
+-- Calls: all except the sense, and all. No call except Sense reads the sense, so that what a call does is a function of the core.
 pub record Core : Type 0 where
   pub state : State
   pub stores : Stores

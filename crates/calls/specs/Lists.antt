@@ -17,7 +17,7 @@ unfoldable pub worldAfter : World → List Call → World
 worldAfter w [] = w
 worldAfter w (c ∷ cs) = worldAfter (step w c .world) cs
 
--- Demand 3: what counts are accepted commands, but not No-Op and Sense, and accepted releases.
+-- Demand 3: what counts: accepted commands except No-Op and Sense, and accepted releases.
 unfoldable pub counts : Core → Call → Bool
 counts k (command i) = every (isAccepted (refusalOf k (command i)) ∷ not (traitsOf (decode (i .byte)) .quiet) ∷ [])
 counts k (compose n out) = false

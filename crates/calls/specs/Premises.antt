@@ -1,5 +1,5 @@
--- What is known of contents that get no 9, and of a call that nothing refuses, each fact by its name. Contracts ask for these; the laws that give them
--- are in proofs/Good and proofs/Accepted.
+-- What is known of contents that get no 9, of a state's arrays, and of a call that nothing refuses, each fact by its name. Contracts ask for these; the laws
+-- that give them are in proofs/Good, proofs/Invariants and proofs/Accepted.
 use Prim.Native.Nat.{ℕ, _*_, _≤_}
 use mathlib.Core.Path.{_≡_}
 use mathlib.Core.Bool.{true, false, not, _&&_}
@@ -55,6 +55,10 @@ pub record Good (k : Core) : Type 0 where
   pub copies : CopiesGood (k .state .copies)
   pub sheet : SheetGood (P (k .state)) (k .state .sheet)
   pub legends : legendsOk (k .stores .legends) ≡ true
+
+-- No page waits.
+abbrev pub Free : Core → Type 0
+Free k = k .state .sheet .waiting ≡ false
 
 -- The arrays of a state are as long as their types say.
 pub record Sized (s : State) : Type 0 where
