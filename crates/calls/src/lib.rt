@@ -3,9 +3,8 @@ use copies::Copies;
 use form::Forms;
 use line::Slots;
 use movement::Motion;
-use numbers::Stores;
 ghost use mathlib.Core.Path.{_≡_};
-ghost use Rattle.calls.specs.Core.{storesOf, sizesOk, started};
+ghost use Rattle.calls.specs.Core.{started};
 
 // What Start fixes: the form length in 24ths of an inch, and the pitch of each module, 0 if it is not fitted.
 pub struct Fixed {
@@ -57,13 +56,6 @@ pub enum Load {
     CopyModification,
     OverlaySequence,
     CopyNumber,
-}
-
-pub fn sizes_ok(page: &[u8], legends: &[u8], tables: &[u8]) -> bool
-    ensures { λ r. ⌜ r ≡ sizesOk (storesOf (now (page .entry)) (now (legends .entry)) (now (tables .entry))) ⌝ }
-{
-    (page.len() == Stores::PAGE_BYTES)
-        & ((legends.len() == Stores::LEGEND_BYTES) & (tables.len() == Stores::TABLE_BYTES))
 }
 
 pub fn is_started(sheet: Sheet) -> bool

@@ -1,13 +1,12 @@
-// The printer for a C host: four calls on numbers and lent bytes. None asks anything of its caller, and the contract of each is one equation that
+// The printer for a C host: the calls on numbers and lent bytes. None asks anything of its caller, and the contract of each is one equation that
 // fixes the packed answer and every lent byte.
-use state::answer;
-use state::codec;
-use state::judge;
 ghost use mathlib.Core.Path.{_≡_};
 ghost use mathlib.Core.List.{[], _∷_};
-ghost use Rattle.calls.specs.Calls.{command, compose, release};
 ghost use Rattle.calls.specs.Core.{storesOf};
-ghost use Rattle.trestlepip.specs.Face.{called, callBytes, startBytes};
+ghost use Rattle.calls.specs.Commands.{issued};
+ghost use Rattle.calls.specs.Calls.{command, compose, release};
+ghost use Rattle.calls.specs.Start.{asked};
+ghost use Rattle.state.specs.Host.{called, callBytes, startBytes};
 
 #[no_mangle]
 pub extern "C" fn trestlepip_start(
@@ -22,23 +21,10 @@ pub extern "C" fn trestlepip_start(
     tables: &mut [u8],
 ) -> u64
     ensures { λ r. ⌜ called r [] (now (state .exit)) (storesOf (now (page .exit)) (now (legends .exit)) (now (tables .exit)))
-        ≡ startBytes form (pitch0 ∷ pitch1 ∷ pitch2 ∷ pitch3 ∷ []) (now (state .entry))
+        ≡ startBytes (asked form (pitch0 ∷ pitch1 ∷ pitch2 ∷ pitch3 ∷ [])) (now (state .entry))
         (storesOf (now (page .entry)) (now (legends .entry)) (now (tables .entry))) ⌝ }
 {
-    if state.len() != state::STATE_BYTES {
-        return answer::unread();
-    }
-    answer::pack(serve::start(
-        form,
-        pitch0,
-        pitch1,
-        pitch2,
-        pitch3,
-        state,
-        page,
-        legends,
-        tables,
-    ))
+    serve::start(form, pitch0, pitch1, pitch2, pitch3, state, page, legends, tables)
 }
 
 #[no_mangle]
@@ -53,16 +39,9 @@ pub extern "C" fn trestlepip_command(
 ) -> u64
     ensures { λ r. ⌜ called r (now (reply .exit)) (now (state .exit)) (storesOf (now (page .exit)) (now (legends .exit)) (now (tables .exit)))
         ≡ callBytes (now (state .entry)) (storesOf (now (page .entry)) (now (legends .entry)) (now (tables .entry)))
-        (command byte (now (sent .entry)) (now (reply .entry))) ⌝ }
+        (command (issued byte (now (sent .entry)) (now (reply .entry)))) ⌝ }
 {
-    if !calls::sizes_ok(page, legends, tables) {
-        return answer::unread();
-    }
-    let found = contents::look(state, legends);
-    if !found.sound {
-        return answer::unread();
-    }
-    answer::pack(serve::command(found.form, byte, sent, reply, state, page, legends, tables))
+    serve::command(byte, sent, reply, state, page, legends, tables)
 }
 
 // The stores are only read.
@@ -78,14 +57,7 @@ pub extern "C" fn trestlepip_compose(
     ensures { λ r. ⌜ (let m = storesOf (now (page .entry)) (now (legends .entry)) (now (tables .entry)) in
         called r (now (out .exit)) (now (state .entry)) m ≡ callBytes (now (state .entry)) m (compose copy (now (out .entry)))) ⌝ }
 {
-    if !calls::sizes_ok(page, legends, tables) {
-        return answer::unread();
-    }
-    let found = contents::look(state, legends);
-    if !found.sound {
-        return answer::unread();
-    }
-    answer::pack(serve::compose(found.form, copy, out, state, page, legends, tables))
+    serve::compose(copy, out, state, page, legends, tables)
 }
 
 #[no_mangle]
@@ -98,12 +70,5 @@ pub extern "C" fn trestlepip_release(
     ensures { λ r. ⌜ called r [] (now (state .exit)) (storesOf (now (page .exit)) (now (legends .exit)) (now (tables .exit)))
         ≡ callBytes (now (state .entry)) (storesOf (now (page .entry)) (now (legends .entry)) (now (tables .entry))) release ⌝ }
 {
-    if !calls::sizes_ok(page, legends, tables) {
-        return answer::unread();
-    }
-    let found = contents::look(state, legends);
-    if !found.sound {
-        return answer::unread();
-    }
-    answer::pack(serve::release(state, page, legends, tables))
+    serve::release(state, page, legends, tables)
 }
