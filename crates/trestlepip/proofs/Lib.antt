@@ -3,3 +3,5 @@ pub mod Unpacks
 pub mod Steps
 pub mod Refused
 pub mod Starts
+pub mod Notes
+pub mod Demand3
