@@ -18,7 +18,8 @@ use Rattle.calls.proofs.Demand3.{after-alike, Alike, demand-3}
 use Rattle.state.specs.State.{bytesOf}
 use Rattle.state.specs.Packed.{packed}
 use Rattle.state.specs.Host.{Called, Held, heldOf, callOn, bytesAfter, heldIn, shown, startBytes}
-use Rattle.trestlepip.specs.Notes.{numberIn, butSense, Noted, deedsIn, notes}
+use Rattle.trestlepip.specs.Host.{numberIn, butSense}
+use Rattle.trestlepip.specs.Notes.{Noted, deedsIn, notes}
 use Rattle.trestlepip.proofs.Steps.{list-steps, call-after}
 use Rattle.trestlepip.proofs.Starts.{start-taken, start-leaves, start-sized}
 use Rattle.trestlepip.proofs.Notes.{answersIn, packedIn, Ends, Told, none, next, notes-kept}

@@ -34,7 +34,8 @@ use Rattle.calls.proofs.SinceReset.{idle-core}
 use Rattle.state.specs.Packed.{packed}
 use Rattle.state.specs.Host.{heldIn, shown}
 use Rattle.state.proofs.Fields.{fields, number-back}
-use Rattle.trestlepip.specs.Notes.{readyIn, countsBy, finishesBy, dueBy, controlSwitch, commandSwitch, switchBy, Noted, Notes, deedsIn, noteCall, notesOver, notes}
+use Rattle.trestlepip.specs.Host.{readyIn}
+use Rattle.trestlepip.specs.Notes.{countsBy, finishesBy, dueBy, controlSwitch, commandSwitch, switchBy, Noted, Notes, deedsIn, noteCall, notesOver, notes}
 use Rattle.trestlepip.proofs.Unpacks.{accepted-fits}
 use Rattle.trestlepip.proofs.Steps.{call-steps}
 

@@ -23,7 +23,7 @@ use Rattle.state.specs.Host.{Called, held, heldOf, bytesIn, shown, unread, call
 use Rattle.state.proofs.Round.{back, sense-back}
 use Rattle.state.proofs.Parts.{sound-read, sound-good}
 use Rattle.state.proofs.Fields.{number-back}
-use Rattle.trestlepip.specs.Notes.{numberIn, butSense}
+use Rattle.trestlepip.specs.Host.{numberIn, butSense}
 
 -- The refusal that a call over bytes gets.
 abbrev pub refusalAt : List ℕ → Stores → Call → Refusal

@@ -27,7 +27,7 @@ use Rattle.state.specs.State.{bytesOf}
 use Rattle.state.specs.Packed.{packed}
 use Rattle.state.specs.Host.{bytesIn, called, heldOf, callOn, bytesAfter, heldIn, shown, unread, callBytes, startBytes}
 use Rattle.state.proofs.Fields.{number-back}
-use Rattle.trestlepip.specs.Notes.{numberIn}
+use Rattle.trestlepip.specs.Host.{numberIn}
 use Rattle.trestlepip.proofs.Steps.{call-steps, list-steps, call-after}
 
 start-names : (a : Asked) (m : Stores) → startOutcome a m .answer .refusal ≡ startRefusal a m

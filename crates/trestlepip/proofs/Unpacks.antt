@@ -1,7 +1,7 @@
 -- Every answer fits the fields of its packed number, so that what a C host takes out of them is what the call answered.
 use Prim.Native.Nat.{ℕ, zero, suc, _-_, _≤_, _<_}
 use mathlib.Core.Path.{_≡_, refl}
-use mathlib.Core.Bool.{Bool, true, false, cond, not, _&&_, _||_}
+use mathlib.Core.Bool.{Bool, true, false, cond, not, _||_}
 use mathlib.Core.List.{List, [], _∷_}
 use native.Mathlib.Omega.{arith}
 use lib.ListN.{length}
@@ -17,7 +17,7 @@ use Rattle.numbers.proofs.Laws.{faulty, accepted-is, facts}
 use Rattle.movement.specs.declared.Motion.{Motion}
 use Rattle.movement.specs.declared.Motion.the-variants.{Space, Skip}
 use Rattle.movement.specs.declared.Moved.{Moved}
-use Rattle.movement.specs.Movement.{Spot, entered, spaced, moved, still, toTop}
+use Rattle.movement.specs.Movement.{Spot, entered, spaced, moved}
 use Rattle.movement.proofs.MovementLaws.{skipped-most}
 use Rattle.line.specs.declared.Causes.{Causes}
 use Rattle.line.specs.Line.{causeByte}
@@ -26,8 +26,8 @@ use Rattle.copies.specs.Copies.{badPair, sequenceCheck, markIn, sequenceNow, co
 use Rattle.copies.proofs.CopiesLaws.{few-copies, number-most}
 use Rattle.calls.specs.declared.Command.{Command}
 use Rattle.calls.specs.declared.Command.the-variants.{Write, Move, Controls, Loads, Unlisted}
-use Rattle.calls.specs.Core.{Stores, Core, World, linesNow, started}
-use Rattle.calls.specs.Commands.{Issued, decode, controlTraits}
+use Rattle.calls.specs.Core.{Stores, Core, World, linesNow}
+use Rattle.calls.specs.Commands.{Issued, decode}
 use Rattle.calls.specs.Contents.{coreOk}
 use Rattle.calls.specs.Effects.{Effect, refused, done, moveOf}
 use Rattle.calls.specs.Calls.{Call, command, compose, release, movement, refusalOf, copyAt, doCompose, doRelease, perform, sizeOf, effect, lent, Outcome, step}
@@ -35,7 +35,7 @@ use Rattle.calls.specs.Start.{Asked, startRefusal, startOutcome}
 use Rattle.calls.proofs.Good.{good, few-now}
 use Rattle.calls.proofs.Accepted.{allowed, composable}
 use Rattle.calls.proofs.Refused.{by-outcome}
-use Rattle.calls.proofs.Answers.{Shape, sets, quiet, shape, acted}
+use Rattle.calls.proofs.Answers.{Shape, sets, quiet, shape, acted, lines-of-no-move}
 use Rattle.printer.specs.Layout.{referenceAt, stateSize}
 use Rattle.state.specs.State.{byteAt, stateAt, worldAt, readable}
 use Rattle.state.specs.Packed.{packed}
@@ -71,13 +71,12 @@ module _ (k : Core) (ok : coreOk k ≡ true) where
       omega (arith, few-now k (good k ok), moved-few (linesNow (k .state)) (k .state .sheet .line) m (s .low) (s .high))
 
   movement-few : (c : Command) → movement k c .lines < 256
-  unfolding movement still toTop
+  unfolding movement
   movement-few (Write m) = move-few m
   movement-few (Move m) = move-few m
-  movement-few (Controls c) =
-      cond-has (λ (v : Moved). v .lines < 256) (controlTraits c .completes && started (k .state .sheet)) (λ t. lit≤ tt) (λ t. lit≤ tt)
-  movement-few (Loads l) = lit≤ tt
-  movement-few Unlisted = lit≤ tt
+  movement-few (Controls c) = rw (lines-of-no-move k (Controls c) refl) (lit≤ tt)
+  movement-few (Loads l) = rw (lines-of-no-move k (Loads l) refl) (lit≤ tt)
+  movement-few Unlisted = rw (lines-of-no-move k Unlisted refl) (lit≤ tt)
 
   command-fits : {c : Command} {e : Effect} → Shape k c e → Fits (e .answer)
   unfolding rowOf

@@ -1,9 +1,9 @@
--- The user's third demand in a host's words: what a host notes as it calls, by what it passes and the packed answers alone. No byte of a state is read.
+-- The user's third demand in a host's words: what a host notes of its calls, from what it passes and from the packed answers. What it holds it keeps
+-- unread.
 use Prim.Native.Nat.{ℕ}
 use mathlib.Core.Bool.{Bool, true, false, cond, not, _&&_}
-use mathlib.Core.List.{List, [], _∷_, _++_, map}
+use mathlib.Core.List.{List, [], _∷_, map}
 use lib.Dec.{eqb}
-use lib.ListN.{take, drop}
 use Rattle.seq.specs.Words.{every}
 use Rattle.calls.specs.declared.Control.{Control}
 use Rattle.calls.specs.declared.Control.the-variants.{NoOp, SenseIo, Initialize, Clear, Block, Allow, Select}
@@ -12,20 +12,8 @@ use Rattle.calls.specs.declared.Command.the-variants.{Write, Move, Controls, Lo
 use Rattle.calls.specs.Commands.{decode, traitsOf}
 use Rattle.calls.specs.Calls.{Call, command, compose, release}
 use Rattle.calls.specs.Lists.{Deed, deedOf}
-use Rattle.printer.specs.Layout.{sense0At, pairsAt}
 use Rattle.state.specs.Host.{Called, Held, heldOf, callOn}
-use Rattle.state.proofs.Fields.{field}
-
--- The number of a packed answer, and whether its call completed a page, as the C header takes them.
-abbrev pub numberIn : ℕ → ℕ
-numberIn answer = field answer 0 8
-
-abbrev pub readyIn : ℕ → Bool
-readyIn answer = eqb (field answer 16 1) 1
-
--- All that a host holds of a state except its sense bytes.
-abbrev pub butSense : Held → List ℕ
-butSense h = take sense0At (h .state) ++ drop pairsAt (h .state)
+use Rattle.trestlepip.specs.Host.{numberIn, readyIn}
 
 -- What counts: accepted commands except No-Op and Sense, and accepted releases.
 unfoldable pub countsBy : Call → ℕ → Bool
@@ -33,19 +21,19 @@ countsBy (command i) answer = every (eqb (numberIn answer) 0 ∷ not (traitsOf (
 countsBy (compose n out) answer = false
 countsBy release answer = eqb (numberIn answer) 0
 
--- What finishes a reset: an Initialize that completed no page, or the Release of a page that an Initialize completed: then the reset was due.
+-- What finishes a reset: an Initialize that completed no page; or, where it completed one, so that a reset is due, the Release of that page.
 unfoldable pub finishesBy : Bool → Call → ℕ → Bool
 finishesBy due (command i) answer = every (countsBy (command i) answer ∷ traitsOf (decode (i .byte)) .resets ∷ not (readyIn answer) ∷ [])
 finishesBy due (compose n out) answer = false
 finishesBy due release answer = every (countsBy release answer ∷ due ∷ [])
 
--- Whether a reset is due after a call that counts.
+-- Whether a reset is due after a call that counts: after an Initialize that completed a page.
 unfoldable pub dueBy : Call → ℕ → Bool
 dueBy (command i) answer = traitsOf (decode (i .byte)) .resets && readyIn answer
 dueBy (compose n out) answer = false
 dueBy release answer = false
 
--- The data-check switch after a call that counts, from what it was: Block and Allow set it.
+-- The data-check switch after a call that counts, which found it at b: Block and Allow set it.
 unfoldable pub controlSwitch : Control → Bool → Bool
 controlSwitch NoOp b = b
 controlSwitch SenseIo b = b
@@ -67,13 +55,13 @@ switchBy (command i) b = commandSwitch (decode (i .byte)) b
 switchBy (compose n out) b = b
 switchBy release b = b
 
--- A call that counts: what it did, its packed answer, and what the host holds right after it.
+-- A call that counts: the deed, its packed answer, and what the host holds right after it.
 pub record Noted : Type 0 where
   pub deed : Deed
   pub answer : ℕ
   pub after : Held
 
--- The notes: the switch at the latest finished reset, the calls that count since, the latest first; the switch now, and whether a reset is due.
+-- The notes: the switch at the latest finished reset, and the calls that count since, the latest first; the switch now, and whether a reset is due.
 pub record Notes : Type 0 where
   pub switch : Bool
   pub calls : List Noted
