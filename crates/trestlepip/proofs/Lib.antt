@@ -1,6 +1,7 @@
-pub mod Calls
 pub mod Tight
-pub mod Tells
-pub mod Sized
-pub mod Follow
-pub mod Seen
+pub mod Unpacks
+pub mod Steps
+pub mod Refused
+pub mod Starts
+pub mod Notes
+pub mod Demand3

@@ -5,12 +5,13 @@ use mathlib.Core.Path.{_≡_, refl, sym, ap, _∙_}
 use mathlib.Core.List.{List, [], _∷_}
 use Rattle.calls.specs.Core.{Stores}
 use Rattle.calls.specs.Calls.{Call}
-use Rattle.trestlepip.specs.Face.{Called, Held, callBytes, startBytes, heldOf, callOn, bytesAfter}
+use Rattle.calls.specs.Start.{Asked}
+use Rattle.state.specs.Host.{Called, Held, callBytes, startBytes, heldOf, callOn, bytesAfter}
 
 -- Start's, and that of Command, Compose and Release.
 module _ {x y : Called} where
-  pub start-tight : (form : ℕ) (pitches s : List ℕ) (m : Stores) → x ≡ startBytes form pitches s m → y ≡ startBytes form pitches s m → x ≡ y
-  start-tight form pitches s m e h = e ∙ sym h
+  pub start-tight : (a : Asked) (s : List ℕ) (m : Stores) → x ≡ startBytes a s m → y ≡ startBytes a s m → x ≡ y
+  start-tight a s m e h = e ∙ sym h
 
   pub call-tight : (s : List ℕ) (m : Stores) (c : Call) → x ≡ callBytes s m c → y ≡ callBytes s m c → x ≡ y
   call-tight s m c e h = e ∙ sym h
@@ -20,7 +21,7 @@ pub data Ran : Held → List Call → Held → Type 0 where
   none : {h : Held} → Ran h [] h
   next : {h h′ : Held} {c : Call} {cs : List Call} {k : Called} → k ≡ callOn h c → Ran (heldOf k) cs h′ → Ran h (c ∷ cs) h′
 
-pub ran-so : {h h′ : Held} {cs : List Call} → Ran h cs h′ → h′ ≡ bytesAfter h cs
+pub ran-leaves : {h h′ : Held} {cs : List Call} → Ran h cs h′ → h′ ≡ bytesAfter h cs
 unfolding bytesAfter
-ran-so none = refl
-ran-so (next {cs = cs} e r) = ran-so r ∙ ap (λ (k : Called). bytesAfter (heldOf k) cs) e
+ran-leaves none = refl
+ran-leaves (next {cs = cs} e r) = ran-leaves r ∙ ap (λ (k : Called). bytesAfter (heldOf k) cs) e

@@ -1,7 +1,7 @@
 -- Every answer fits the fields of its packed number, so that what a C host takes out of them is what the call answered.
 use Prim.Native.Nat.{ℕ, zero, suc, _-_, _≤_, _<_}
 use mathlib.Core.Path.{_≡_, refl}
-use mathlib.Core.Bool.{Bool, true, false, cond, not, _&&_, _||_}
+use mathlib.Core.Bool.{Bool, true, false, cond, not, _||_}
 use mathlib.Core.List.{List, [], _∷_}
 use native.Mathlib.Omega.{arith}
 use lib.ListN.{length}
@@ -13,11 +13,11 @@ use Rattle.numbers.specs.declared.Answer.{Answer}
 use Rattle.numbers.specs.declared.Checked.the-variants.{Sound}
 use Rattle.numbers.specs.declared.Refusal.the-variants.{Accepted, BadStore}
 use Rattle.numbers.specs.Numbers.{rowOf, isAccepted, only}
-use Rattle.numbers.proofs.Laws.{faulty, accepted-is}
+use Rattle.numbers.proofs.Laws.{faulty, accepted-is, facts}
 use Rattle.movement.specs.declared.Motion.{Motion}
 use Rattle.movement.specs.declared.Motion.the-variants.{Space, Skip}
 use Rattle.movement.specs.declared.Moved.{Moved}
-use Rattle.movement.specs.Movement.{Spot, entered, spaced, moved, still, toTop}
+use Rattle.movement.specs.Movement.{Spot, entered, spaced, moved}
 use Rattle.movement.proofs.MovementLaws.{skipped-most}
 use Rattle.line.specs.declared.Causes.{Causes}
 use Rattle.line.specs.Line.{causeByte}
@@ -26,20 +26,21 @@ use Rattle.copies.specs.Copies.{badPair, sequenceCheck, markIn, sequenceNow, co
 use Rattle.copies.proofs.CopiesLaws.{few-copies, number-most}
 use Rattle.calls.specs.declared.Command.{Command}
 use Rattle.calls.specs.declared.Command.the-variants.{Write, Move, Controls, Loads, Unlisted}
-use Rattle.calls.specs.Core.{Stores, Core, World, linesNow, started}
-use Rattle.calls.specs.Commands.{decode, controlTraits}
+use Rattle.calls.specs.Core.{Stores, Core, World, linesNow}
+use Rattle.calls.specs.Commands.{Issued, decode}
 use Rattle.calls.specs.Contents.{coreOk}
 use Rattle.calls.specs.Effects.{Effect, refused, done, moveOf}
-use Rattle.calls.specs.Calls.{Call, command, compose, release, movement, refusalOf, copyAt, doCompose, doRelease, perform, sizeOf, lent, Outcome, step}
-use Rattle.calls.specs.Start.{startOutcome}
+use Rattle.calls.specs.Calls.{Call, command, compose, release, movement, refusalOf, copyAt, doCompose, doRelease, perform, sizeOf, effect, lent, Outcome, step}
+use Rattle.calls.specs.Start.{Asked, startRefusal, startOutcome}
 use Rattle.calls.proofs.Good.{good, few-now}
-use Rattle.calls.proofs.Accepted.{taken, composable}
+use Rattle.calls.proofs.Accepted.{allowed, composable}
 use Rattle.calls.proofs.Refused.{by-outcome}
-use Rattle.calls.proofs.Answers.{Shape, sets, quiet, shape}
-use Rattle.state.specs.State.{stateSize, byteAt, stateAt, worldAt, readable}
+use Rattle.calls.proofs.Answers.{Shape, sets, quiet, shape, acted, lines-of-no-move}
+use Rattle.printer.specs.Layout.{referenceAt, stateSize}
+use Rattle.state.specs.State.{byteAt, stateAt, worldAt, readable}
 use Rattle.state.specs.Packed.{packed}
-use Rattle.state.proofs.Fields.{Fits, Unpacked, bit-most, small, fields, only-fits}
-use Rattle.trestlepip.specs.Face.{shown, unread, callBytes, startBytes}
+use Rattle.state.specs.Host.{shown, unread, callBytes, startBytes}
+use Rattle.state.proofs.Fields.{Fits, Unpacked, bit-most, fields, only-fits}
 
 -- what an accepted command tells besides is its lines
 done-fits : (k : Core) (c : Causes) (m : Moved) → m .lines < 256 → Fits (done k c m .answer)
@@ -70,18 +71,20 @@ module _ (k : Core) (ok : coreOk k ≡ true) where
       omega (arith, few-now k (good k ok), moved-few (linesNow (k .state)) (k .state .sheet .line) m (s .low) (s .high))
 
   movement-few : (c : Command) → movement k c .lines < 256
-  unfolding movement still toTop
+  unfolding movement
   movement-few (Write m) = move-few m
   movement-few (Move m) = move-few m
-  movement-few (Controls c) =
-      cond-has (λ (v : Moved). v .lines < 256) (controlTraits c .completes && started (k .state .sheet)) (λ t. lit≤ tt) (λ t. lit≤ tt)
-  movement-few (Loads l) = lit≤ tt
-  movement-few Unlisted = lit≤ tt
+  movement-few (Controls c) = rw (lines-of-no-move k (Controls c) refl) (lit≤ tt)
+  movement-few (Loads l) = rw (lines-of-no-move k (Loads l) refl) (lit≤ tt)
+  movement-few Unlisted = rw (lines-of-no-move k Unlisted refl) (lit≤ tt)
 
   command-fits : {c : Command} {e : Effect} → Shape k c e → Fits (e .answer)
   unfolding rowOf
-  command-fits {c} (sets k′ x q e) = rw e (done-fits k′ x (movement k c) (movement-few c))
+  command-fits {c} (sets k′ x q w e) = rw e (done-fits k′ x (movement k c) (movement-few c))
   command-fits (quiet s f q m e) = rw e (only-fits Accepted _ (lit≤ tt))
+
+pub accepted-fits : (k : Core) (i : Issued) → isAccepted (refusalOf k (command i)) ≡ true → Fits (effect k (command i) .answer)
+accepted-fits k i e = command-fits k (allowed k i e .ok) (acted k i e)
 
 -- The mark that Compose tells is one of the sequence's, so 0 or 1.
 mark-in : (k : ℕ) (ps : List (ℕ × ℕ)) → any badPair ps ≡ false → markIn k ps ≤ 1
@@ -104,17 +107,15 @@ copy-fits k n out h e =
     let g = good k (c .ok) .copies in
     record {
       status = lit≤ tt;
-      mark = mark-most (k .state .copies) n (g .taken);
+      mark = mark-most (k .state .copies) n (g .sound);
       lines = lit≤ tt;
-      copy = omega (arith, number-most (k .state .copies) n h (omega (arith, c .high, few-copies _ (g .taken))));
+      copy = omega (arith, number-most (k .state .copies) n h (omega (arith, c .high, few-copies _ (g .sound))));
     }
 
 -- every accepted call
 perform-fits : (k : Core) (c : Call) → k .state .copies .reference ≤ 255 → isAccepted (refusalOf k c) ≡ true → Fits (perform k c .answer)
 unfolding perform doRelease
-perform-fits k (command b r reply) h e =
-    let t = taken k b r reply e in
-    command-fits k (t .ok) (shape k (decode b) r (t .known))
+perform-fits k (command i) h e = let a = allowed k i e in command-fits k (a .ok) (shape k (decode (i .byte)) i (a .known))
 perform-fits k (compose n out) h e = copy-fits k n out h e
 perform-fits k release h e = only-fits Accepted 0 (lit≤ tt)
 
@@ -122,27 +123,30 @@ perform-fits k release h e = only-fits Accepted 0 (lit≤ tt)
 pub step-fits : (w : World) (c : Call) → w .core .state .copies .reference ≤ 255 → Fits (step w c .answer)
 unfolding step refused
 step-fits w c h =
-    by-outcome (λ (e : Effect). Fits (e .answer)) (w .core) c (perform-fits (w .core) c h) (λ e. only-fits _ _ (omega (arith, small (sizeOf c) (refusalOf (w .core) c) .status)))
+    by-outcome (λ (e : Effect). Fits (e .answer)) (w .core) c (perform-fits (w .core) c h) (λ e. only-fits _ _ (omega (arith, facts (sizeOf c) 0 (refusalOf (w .core) c) .statusMost)))
 
-pub start-fits : (len : ℕ) (ps : List ℕ) (m : Stores) → Fits (startOutcome len ps m .answer)
+pub start-fits : (a : Asked) (m : Stores) → Fits (startOutcome a m .answer)
 unfolding startOutcome
-start-fits len ps m = only-fits _ 0 (lit≤ tt)
+start-fits a m =
+    cond-has (λ (o : Outcome). Fits (o .answer)) (isAccepted (startRefusal a m)) (λ e. only-fits Accepted 0 (lit≤ tt))
+    (λ e. only-fits _ _ (omega (arith, facts 0 0 (startRefusal a m) .statusMost)))
 
 -- So what a C host takes out of a call's 64 bits is what the call answered, whatever bytes it was lent; and likewise of Start.
-abbrev pub Tells : ℕ → Answer → Type 0
-Tells n a = (n ≡ packed a) × Unpacked a
+pub record Unpacks (n : ℕ) (a : Answer) : Type 0 where
+  pub packs : n ≡ packed a
+  pub fields : Unpacked a
 
-tells : (t : Bool) (o : Outcome) (buffer s : List ℕ) (m : Stores) → Fits (o .answer)
-    → Tells (cond t (shown o) (unread buffer s m) .answer) (cond t (o .answer) (only BadStore 0))
-tells true o buffer s m h = (refl, fields (o .answer) h)
-tells false o buffer s m h = (refl, fields (only BadStore 0) (only-fits BadStore 0 (lit≤ tt)))
+unpacks : (t : Bool) (o : Outcome) (buffer s : List ℕ) (m : Stores) → Fits (o .answer)
+    → Unpacks (cond t (shown o) (unread buffer s m) .answer) (cond t (o .answer) (only BadStore 0))
+unpacks true o buffer s m h = record { packs = refl; fields = fields (o .answer) h }
+unpacks false o buffer s m h = record { packs = refl; fields = fields (only BadStore 0) (only-fits BadStore 0 (lit≤ tt)) }
 
-pub call-tells : (s : List ℕ) (m : Stores) (c : Call) → byteAt s 14 ≤ 255
-    → Tells (callBytes s m c .answer) (cond (readable s) (step (worldAt s m) c .answer) (only BadStore 0))
+pub call-unpacks : (s : List ℕ) (m : Stores) (c : Call) → byteAt s referenceAt ≤ 255
+    → Unpacks (callBytes s m c .answer) (cond (readable s) (step (worldAt s m) c .answer) (only BadStore 0))
 unfolding callBytes stateAt
-call-tells s m c h = tells (readable s) (step (worldAt s m) c) (lent c) s m (step-fits (worldAt s m) c h)
+call-unpacks s m c h = unpacks (readable s) (step (worldAt s m) c) (lent c) s m (step-fits (worldAt s m) c h)
 
-pub start-tells : (len : ℕ) (ps s : List ℕ) (m : Stores)
-    → Tells (startBytes len ps s m .answer) (cond (eqb (length s) stateSize) (startOutcome len ps m .answer) (only BadStore 0))
+pub start-unpacks : (a : Asked) (s : List ℕ) (m : Stores)
+    → Unpacks (startBytes a s m .answer) (cond (eqb (length s) stateSize) (startOutcome a m .answer) (only BadStore 0))
 unfolding startBytes
-start-tells len ps s m = tells (eqb (length s) stateSize) (startOutcome len ps m) [] s m (start-fits len ps m)
+start-unpacks a s m = unpacks (eqb (length s) stateSize) (startOutcome a m) [] s m (start-fits a m)

@@ -1,0 +1,20 @@
+-- What a C host takes out of a packed answer, and of the state that it holds.
+use Prim.Native.Nat.{ℕ}
+use mathlib.Core.Bool.{Bool}
+use mathlib.Core.List.{List, _++_}
+use lib.Dec.{eqb}
+use lib.ListN.{take, drop}
+use Rattle.printer.specs.Layout.{sense0At, pairsAt}
+use Rattle.state.specs.Host.{Held}
+use Rattle.state.proofs.Fields.{field}
+
+-- The answer's number, where 0 is accepted, and whether the call completed a page, each as the C header takes it.
+abbrev pub numberIn : ℕ → ℕ
+numberIn answer = field answer 0 8
+
+abbrev pub readyIn : ℕ → Bool
+readyIn answer = eqb (field answer 16 1) 1
+
+-- The state's bytes except those of the sense.
+abbrev pub butSense : Held → List ℕ
+butSense h = take sense0At (h .state) ++ drop pairsAt (h .state)
