@@ -9,11 +9,7 @@ use Rattle.numbers.specs.declared.Answer.{Answer}
 use Rattle.numbers.specs.declared.Refusal.{Refusal}
 use Rattle.numbers.specs.Numbers.{rowOf, numberOf, only}
 use Rattle.numbers.proofs.Laws.{Facts, facts}
-use Rattle.state.specs.Packed.{packed}
-
--- so many bits of n from bit low on, as trestlepip_field of the C header takes them
-abbrev pub field : ℕ → ℕ → ℕ → ℕ
-field n low bits = n / 2 ^ low % 2 ^ bits
+use Rattle.state.specs.Packed.{packed, field}
 
 -- what each field has room for
 pub record Fits (a : Answer) : Type 0 where

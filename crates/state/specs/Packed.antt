@@ -1,5 +1,5 @@
 -- The answer of a call as the one 64-bit number that a C host gets. A field's place is a bit, and each follows the one before it.
-use Prim.Native.Nat.{ℕ, _+_, _*_, _^_}
+use Prim.Native.Nat.{ℕ, _+_, _*_, _/_, _%_, _^_}
 use Rattle.seq.specs.Words.{bit}
 use Rattle.numbers.specs.declared.Answer.{Answer}
 use Rattle.numbers.specs.Numbers.{rowOf, numberOf}
@@ -14,3 +14,7 @@ packed a =
     + rowOf 0 (a .refusal) .cause * 0x40000
     + a .lines * 0x1000000
     + a .copy * 0x100000000
+
+-- So many bits of a packed answer from bit `low` on, as the C header takes them.
+abbrev pub field : ℕ → ℕ → ℕ → ℕ
+field n low bits = n / 2 ^ low % 2 ^ bits

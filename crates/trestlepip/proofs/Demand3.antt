@@ -22,7 +22,7 @@ use Rattle.trestlepip.specs.Host.{numberIn, butSense}
 use Rattle.trestlepip.specs.Notes.{Noted, deedsIn, notes}
 use Rattle.trestlepip.proofs.Steps.{list-steps, call-after}
 use Rattle.trestlepip.proofs.Starts.{start-taken, start-leaves, start-sized}
-use Rattle.trestlepip.proofs.Notes.{answersIn, packedIn, Ends, Told, none, next, notes-kept}
+use Rattle.trestlepip.proofs.Notes.{answersIn, packedIn, Ends, Told, none, next, notes-agree}
 
 -- What two hosts hold, a and b.
 pub record HeldAlike (a b : Held) : Type 0 where
@@ -120,8 +120,8 @@ demand-3-over-bytes a s s′ m m′ xs ys four e e′ =
     let t = start-taken a s m e in
     rw (start-leaves a s m e, start-leaves a s′ m′ e′)
     (λ p q.
-    let x = notes-kept a xs z in
-    let y = notes-kept a ys z in
+    let x = notes-agree a xs z in
+    let y = notes-agree a ys z in
     let switch = sym (x .switch) ∙ p ∙ y .switch in
     let deeds = sym (x .deeds) ∙ ap reverse q ∙ y .deeds in
     let answers = x .answers ∙ ap packedIn (alike a m t z xs ys switch deeds .gave) ∙ sym (y .answers) in

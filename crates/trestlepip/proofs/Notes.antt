@@ -165,7 +165,7 @@ pub data Told (w : World) (blocked : Bool) : List Noted → Type 0 where
   next : {x : Noted} {l : List Noted} (xs : List Call) → Ends w xs blocked x l → Told w blocked l → Told w blocked (x ∷ l)
 
 -- The notes n of calls that were made on w and left v, beside what the definitions say of them, s.
-pub record Kept (w v : World) (s : Since) (n : Notes) : Type 0 where
+pub record Agrees (w v : World) (s : Since) (n : Notes) : Type 0 where
   pub switch : n .switch ≡ s .switch
   pub deeds : reverse (deedsIn (n .calls)) ≡ s .deeds
   pub answers : reverse (answersIn (n .calls)) ≡ packedIn (s .gave)
@@ -185,7 +185,7 @@ unfolding sinceOver worldAfter step
 since-one w s [] c = refl
 since-one w s (x ∷ xs) c = since-one (step w x .world) (note (w .core) s x) xs c
 
-module _ (w v : World) (s : Since) (xs : List Call) (ew : worldAfter w xs ≡ v) (es : sinceReset w xs ≡ s) (n : Notes) (h : Kept w v s n) (c : Call) where
+module _ (w v : World) (s : Since) (xs : List Call) (ew : worldAfter w xs ≡ v) (es : sinceReset w xs ≡ s) (n : Notes) (h : Agrees w v s n) (c : Call) where
   blocked-noted : cond (counts (v .core) c) (switchBy c (n .blocked)) (n .blocked) ≡ effect (v .core) c .core .state .blocked
   blocked-noted =
       cond-has (λ (b : Bool). b ≡ effect (v .core) c .core .state .blocked) (counts (v .core) c) (λ t. rw (h .blocked) (switch-told v c t))
@@ -206,12 +206,12 @@ module _ (w v : World) (s : Since) (xs : List Call) (ew : worldAfter w xs ≡ v)
   unfolding sinceReset
   since-call = since-one w (sinceNow (w .core .state .blocked)) xs c ∙ rw (ew, es)
 
-  kept-call : Kept w (step v c .world) (note (v .core) s c) (noteCall n c (shown (step v c)))
+  agrees-call : Agrees w (step v c .world) (note (v .core) s c) (noteCall n c (shown (step v c)))
   unfolding noteCall note sinceNow step given
-  kept-call = go (finishesReset (v .core) c) refl (counts (v .core) c) refl
+  agrees-call = go (finishesReset (v .core) c) refl (counts (v .core) c) refl
     where
       go : (p : Bool) → finishesReset (v .core) c ≡ p → (q : Bool) → counts (v .core) c ≡ q
-          → Kept w (step v c .world) (note (v .core) s c) (noteCall n c (shown (step v c)))
+          → Agrees w (step v c .world) (note (v .core) s c) (noteCall n c (shown (step v c)))
       go true ep q eq =
           rw (finishes-noted, counts-told v c, ep)
           (record { switch = h .blocked; deeds = refl; answers = refl; blocked = blocked-noted; due = due-noted; told = none })
@@ -242,18 +242,18 @@ module _ (w v : World) (s : Since) (xs : List Call) (ew : worldAfter w xs ≡ v)
           (record { switch = rw eq (h .switch); deeds = rw eq (h .deeds); answers = rw eq (h .answers); blocked = blocked-noted; due = due-noted; told = rw eq (h .told) })
 
 -- Any list of calls, then from an accepted Start.
-kept-over : (w v : World) (s : Since) (xs cs : List Call) (n : Notes) → worldAfter w xs ≡ v → sinceReset w xs ≡ s → Sized (v .core .state) → Kept w v s n
-    → Kept w (worldAfter v cs) (sinceOver (v .core) s cs) (notesOver (heldIn v) n cs)
+agrees-over : (w v : World) (s : Since) (xs cs : List Call) (n : Notes) → worldAfter w xs ≡ v → sinceReset w xs ≡ s → Sized (v .core .state) → Agrees w v s n
+    → Agrees w (worldAfter v cs) (sinceOver (v .core) s cs) (notesOver (heldIn v) n cs)
 unfolding worldAfter sinceOver notesOver step
-kept-over w v s xs [] n ew es z h = h
-kept-over w v s xs (c ∷ cs) n ew es z h =
+agrees-over w v s xs [] n ew es z h = h
+agrees-over w v s xs (c ∷ cs) n ew es z h =
     rw (call-steps v c z)
-    (kept-over w (step v c .world) (note (v .core) s c) (xs ++ (c ∷ [])) cs _ (after-call w v s xs ew es n h c) (since-call w v s xs ew es n h c)
-    (sized-call (v .core) c z) (kept-call w v s xs ew es n h c))
+    (agrees-over w (step v c .world) (note (v .core) s c) (xs ++ (c ∷ [])) cs _ (after-call w v s xs ew es n h c) (since-call w v s xs ew es n h c)
+    (sized-call (v .core) c z) (agrees-call w v s xs ew es n h c))
 
-pub notes-kept : (a : Asked) (cs : List Call) → Sized (startWorld a .core .state)
-    → (let w = startWorld a in Kept w (worldAfter w cs) (sinceReset w cs) (notes (heldIn w) cs))
+pub notes-agree : (a : Asked) (cs : List Call) → Sized (startWorld a .core .state)
+    → (let w = startWorld a in Agrees w (worldAfter w cs) (sinceReset w cs) (notes (heldIn w) cs))
 unfolding notes sinceReset worldAfter sinceOver sinceNow startWorld fresh resetState blankSheet
-notes-kept a cs z =
+notes-agree a cs z =
     let w = startWorld a in
-    kept-over w w (sinceNow false) [] cs _ refl refl z (record { switch = refl; deeds = refl; answers = refl; blocked = refl; due = refl; told = none })
+    agrees-over w w (sinceNow false) [] cs _ refl refl z (record { switch = refl; deeds = refl; answers = refl; blocked = refl; due = refl; told = none })

@@ -6,7 +6,7 @@ use lib.Dec.{eqb}
 use lib.ListN.{take, drop}
 use Rattle.printer.specs.Layout.{sense0At, pairsAt}
 use Rattle.state.specs.Host.{Held}
-use Rattle.state.proofs.Fields.{field}
+use Rattle.state.specs.Packed.{field}
 
 -- The answer's number, where 0 is accepted, and whether the call completed a page, each as the C header takes it.
 abbrev pub numberIn : ℕ → ℕ

@@ -24,7 +24,17 @@ pub extern "C" fn trestlepip_start(
         ≡ startBytes (asked form (pitch0 ∷ pitch1 ∷ pitch2 ∷ pitch3 ∷ [])) (now (state .entry))
         (storesOf (now (page .entry)) (now (legends .entry)) (now (tables .entry))) ⌝ }
 {
-    serve::start(form, pitch0, pitch1, pitch2, pitch3, state, page, legends, tables)
+    serve::start(
+        form,
+        pitch0,
+        pitch1,
+        pitch2,
+        pitch3,
+        state,
+        page,
+        legends,
+        tables,
+    )
 }
 
 #[no_mangle]
