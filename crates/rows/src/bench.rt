@@ -121,7 +121,7 @@ fn tell(
     let was_page = *page;
     let was_legends = *legends;
     let was_tables = *tables;
-    let mut buffer = [7u8; 3061];
+    let mut buffer = [7u8; stores::BUFFER_ROOM];
     let answer = lend(
         letter,
         given,
@@ -159,7 +159,7 @@ pub fn obey(
 ) -> bool {
     show::text(line);
     let letter = words::letter(line);
-    let mut given = [0u8; 8194];
+    let mut given = [0u8; words::GIVEN_ROOM];
     let n = words::bytes(line, letter, &mut given);
     if !words::meant(letter, n) {
         return false;

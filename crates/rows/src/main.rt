@@ -9,10 +9,10 @@ use script::words;
 // Line after line, to the end or to one that cannot be read. The stores begin with bytes that no Start leaves.
 fn run(script: &[u8]) {
     let mut lent = stores::USUAL;
-    let mut state = [4u8; 185];
-    let mut page = [5u8; 26929];
-    let mut legends = [6u8; 8193];
-    let mut tables = [7u8; 1025];
+    let mut state = [4u8; stores::STATE_ROOM];
+    let mut page = [5u8; stores::PAGE_ROOM];
+    let mut legends = [6u8; stores::LEGEND_ROOM];
+    let mut tables = [7u8; stores::TABLE_ROOM];
     let mut at = 0;
     while at < script.len() {
         let end = words::until(script, at, b'\n');

@@ -2,6 +2,8 @@
 use crate::stores::Page;
 use crate::stores::State;
 use libc::STDOUT_FILENO;
+use numbers::Stores;
+use printer::Printer;
 
 pub fn text(s: &[u8]) {
     io::write_all(STDOUT_FILENO, s);
@@ -51,17 +53,18 @@ pub fn answer(a: u64) {
 
 // Sense bytes 0, 1, 2, 22 and 23, the current line, and that line's first cell.
 pub fn state(s: &State, page: &Page) {
-    byte(b" | sense", s[19]);
-    byte(b"", s[20]);
-    byte(b"", s[21]);
-    byte(b" ..", s[22]);
-    byte(b"", s[23]);
-    let line = seq::wide(s[15]);
+    byte(b" | sense", s[Printer::SENSE0_AT]);
+    byte(b"", s[Printer::SENSE0_AT + 1]);
+    byte(b"", s[Printer::SENSE0_AT + 2]);
+    byte(b" ..", s[Printer::SENSE0_AT + 3]);
+    byte(b"", s[Printer::SENSE0_AT + 4]);
+    let line = seq::wide(s[Printer::SHEET_AT]);
     count(b" line", line as u64);
     if line == 0 {
         return;
     }
-    if line <= 132 {
-        byte(b" cell", page[(line - 1) * 204]);
+    let at = (line - 1) * Stores::LINE_BYTES;
+    if at < Stores::PAGE_BYTES {
+        byte(b" cell", page[at]);
     }
 }

@@ -1,9 +1,12 @@
 // A line of the script: the letter that says what it is for, and its bytes.
+use numbers::Stores;
 ghost use Prim.Native.Nat.{_<_, _≤_};
 ghost use lib.ListN.{length};
 
 // Room for a command's byte and a record that is one byte longer than a load takes.
-pub type Given = [u8; 8194];
+pub const GIVEN_ROOM: usize = 1 + Stores::LEGEND_BYTES + 1;
+
+pub type Given = [u8; GIVEN_ROOM];
 
 // Above every number and count of bytes: what a word that cannot be read stands for, and how many bytes its line has.
 const WRONG: usize = 0x10000;
