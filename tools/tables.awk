@@ -131,6 +131,6 @@ END {
     phrase("load.s over N", "LEGEND_BYTES")
     phrase("table under N bytes", "SLOT_BYTES")
     list_of_sets()
-    if (!bad) print "tables: documents and headers have what the code has, in " phrases " phrases too"
+    if (!bad) print "tables: the documents have the rows of the code, and its sizes in " phrases " phrases"
     exit bad
 }
