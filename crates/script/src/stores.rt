@@ -94,8 +94,8 @@ pub fn changed(
     filled(state, page, legends, tables);
 }
 
-// What the call wrote into the buffer. Of an accepted copy: cell 1 and the first line's last, how many bytes are not 00, and how many are not the page's. Of an
-// accepted Sense: bytes 0 to 3, 22 and 23.
+// What the call wrote into the buffer. Of an accepted copy: the first line's first and last cell, how many bytes are not 00, and how many are not the
+// page's. Of an accepted Sense: bytes 0 to 3, 22 and 23.
 pub fn written(answer: u64, letter: u8, code: u8, end: usize, buffer: &Buffer, page: &Page) {
     show::differ(b" | buffer", buffer, &[7; BUFFER_ROOM]);
     if answer % 0x100 != 0 {

@@ -8,7 +8,7 @@ use script::show;
 // A byte count whose two bytes differ from each other and from 00.
 const COUNT: u16 = 0x1234;
 
-// Prints a row's names. Answers what the row after it is of.
+// Prints a row's names. Answers the refusal whose row comes next.
 fn names(number: &[u8], cause: &[u8], next: Refusal) -> Refusal {
     show::text(b"row ");
     show::text(number);
@@ -25,7 +25,7 @@ fn check(cause: &[u8], next: Cause) -> Refusal {
     names(b"LOAD_CHECK", cause, Refusal::LoadCheck(next))
 }
 
-// The causes in their order; the row after the last is that of PageWaiting. A new cause is a new arm, or this is no match.
+// Each cause leads to the next, the last to PageWaiting. The compiler refuses a match without an arm for every cause, so none is left out.
 fn after_cause(cause: Cause) -> Refusal {
     match cause {
         Cause::FcbChannel => check(b"FCB_CHANNEL", Cause::FcbSpacing),
@@ -41,7 +41,7 @@ fn after_cause(cause: Cause) -> Refusal {
     }
 }
 
-// The refusals in their order, the last followed by the first.
+// Each refusal leads to the next, the last to the first.
 fn after(refusal: Refusal) -> Refusal {
     match refusal {
         Refusal::Accepted => plain(b"ACCEPTED", Refusal::NotListed),
@@ -75,7 +75,7 @@ fn sense(step: SenseStep) {
     }
 }
 
-// A row; answers what the next is of.
+// Prints a row. Answers the refusal whose row comes next.
 fn tell(refusal: Refusal) -> Refusal {
     let next = after(refusal);
     let row = refusal.row(COUNT);
@@ -90,7 +90,7 @@ fn tell(refusal: Refusal) -> Refusal {
 
 pub fn rows() {
     show::text(
-        b"# row: the names of a number and of its cause, both, the status, and sense bytes 0, 1, 2, 22, 23 of a record of 1234 bytes in hexadecimal\n",
+        b"# row: the names of a number and of its cause, both as numbers, the status, and sense bytes 0, 1, 2, 22, 23 for a record of 4660 (1234 hexadecimal) bytes\n",
     );
     let mut refusal = Refusal::Accepted;
     for i in 0usize..256 {
