@@ -6,13 +6,11 @@ use printer::Printer;
 ghost use mathlib.Core.Path.{_≡_};
 ghost use mathlib.Core.Bool.{true, _&&_};
 ghost use lib.ListN.{length};
-ghost use Rattle.numbers.specs.Sizes.{legendSize};
 ghost use Rattle.form.specs.Form.{formOk, formsInRange};
-ghost use Rattle.legends.specs.Legends.{legendsOk};
 ghost use Rattle.calls.specs.Core.{storesOf, sizesOk, laidOut};
 ghost use Rattle.calls.specs.Contents.{dueOk, markOk};
 ghost use Rattle.printer.specs.Layout.{stateSize};
-ghost use Rattle.state.specs.State.{stateAt, readable};
+ghost use Rattle.state.specs.State.{stateAt};
 ghost use Rattle.state.specs.Contents.{fieldsOk, copiesOk, formsLineOk, stateOk, soundBytes};
 
 // What judging finds: whether a printer can have what is lent, and the form laid out if so.
@@ -144,13 +142,15 @@ fn judge_state(s: &[u8]) -> Found
     }
 }
 
-// The sizes are already checked. Returns at the first part that is bad; the legends, which are the longest, come last.
-fn judge_bytes(state: &[u8], legends: &[u8]) -> Found
-    requires { ⌜ length (now legends) ≡ legendSize ⌝ }
+// Number 9, for every call but Start. It returns at the first part that is bad; the legends, which are the longest, come last.
+pub fn judge(state: &[u8], page: &[u8], legends: &[u8], tables: &[u8]) -> Found
     ensures sound { λ r. ⌜ r .sound
-        ≡ (readable (now (state .entry)) && (stateOk (stateAt (now (state .entry))) && legendsOk (now (legends .entry)))) ⌝ }
+        ≡ soundBytes (now (state .entry)) (storesOf (now (page .entry)) (now (legends .entry)) (now (tables .entry))) ⌝ }
     ensures form { λ r. ⌜ (r .sound ≡ true → r .form ≡ laidOut (stateAt (now (state .entry)))) ⌝ }
 {
+    if !sizes_ok(page, legends, tables) {
+        return Found::NONE;
+    }
     if !codec::is_readable(state) {
         return Found::NONE;
     }
@@ -163,16 +163,4 @@ fn judge_bytes(state: &[u8], legends: &[u8]) -> Found
         sound: legends::legends_ok(legends),
         form: form,
     }
-}
-
-// Number 9, for every call but Start. What follows the sizes is a function of its own, so that a wrong size is told without a call.
-pub fn judge(state: &[u8], page: &[u8], legends: &[u8], tables: &[u8]) -> Found
-    ensures sound { λ r. ⌜ r .sound
-        ≡ soundBytes (now (state .entry)) (storesOf (now (page .entry)) (now (legends .entry)) (now (tables .entry))) ⌝ }
-    ensures form { λ r. ⌜ (r .sound ≡ true → r .form ≡ laidOut (stateAt (now (state .entry)))) ⌝ }
-{
-    if !sizes_ok(page, legends, tables) {
-        return Found::NONE;
-    }
-    judge_bytes(state, legends)
 }
