@@ -28,7 +28,7 @@ use Rattle.calls.specs.declared.Command.the-variants.{Write, Move, Contr
 use Rattle.calls.specs.Core.{Core, World, started}
 use Rattle.calls.specs.Commands.{Issued, decode, controlTraits, traitsOf, isUnlisted}
 use Rattle.calls.specs.Reset.{blankSheet, resetState, reset, senseBytes}
-use Rattle.calls.specs.Effects.{Effect, nothing, refused, done, movedSheet, moveOf, standing, movedCore, marked, written, loaded, atLine1, quietly, doMove, doWrite, doLoad, completing, doControl, doCommand}
+use Rattle.calls.specs.Effects.{Effect, nothing, refused, done, movedSheet, moveOf, standing, movedCore, writtenSheet, written, loaded, atLine1, quietly, doMove, doWrite, doLoad, completing, doControl, doCommand}
 use Rattle.calls.specs.Calls.{Call, command, compose, release, movement, refusalOf, doCompose, doRelease, emptied, released, perform, effect, step}
 use Rattle.calls.specs.Premises.{Free}
 use Rattle.calls.proofs.Accepted.{allowed}
@@ -89,7 +89,7 @@ shape-completing k k′ due true c e q f s = sets (movedCore due k toTop) noCaus
 shape-completing k k′ due false c e q f s = sets k′ noCauses q (λ w. rw (e, s) (f w)) (rw (e, s))
 
 pub shape : (k : Core) (c : Command) (i : Issued) → isUnlisted c ≡ false → Shape k c (doCommand k c i)
-unfolding doCommand doControl doWrite doMove doLoad movement traitsOf controlTraits still written marked reset resetState blankSheet
+unfolding doCommand doControl doWrite doMove doLoad movement traitsOf controlTraits still written writtenSheet reset resetState blankSheet
 shape k (Write m) i e = sets _ _ refl (moved-waits false _ (moveOf (k .state) m)) refl
 shape k (Move m) i e = sets _ _ refl (moved-waits false _ (moveOf (k .state) m)) refl
 shape k (Controls NoOp) i e = quiet Keep nothing refl refl refl

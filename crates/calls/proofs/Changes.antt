@@ -24,7 +24,7 @@ use Rattle.calls.specs.Core.{Core, World, withState, withBlocked, withSl
 use Rattle.calls.specs.Commands.{Issued, codes, lookUp, skips, decode, controlTraits, traitsOf}
 use Rattle.calls.specs.Contents.{coreOk}
 use Rattle.calls.specs.Reset.{blankSheet, noCells, reset}
-use Rattle.calls.specs.Effects.{Effect, refused, done, movedCore, moveOf, doMove, marked, written, doWrite, loadCheck, slotSelected, loaded, doLoad, completing, doControl, doCommand}
+use Rattle.calls.specs.Effects.{Effect, refused, done, movedCore, moveOf, doMove, writtenSheet, written, doWrite, loadCheck, slotSelected, loaded, doLoad, completing, doControl, doCommand}
 use Rattle.calls.specs.Calls.{Call, command, compose, release, checkOf, refusalOf, doCompose, emptied, released, doRelease, perform, effect, step}
 use Rattle.calls.specs.Premises.{Good, Allowed, Free}
 use Rattle.calls.specs.Lists.{worldAfter}
@@ -90,7 +90,7 @@ module _ {Q : Core → Type 0} (q : Survives Q) where
   by-completing {k} due g f h h′ = cond-has (λ (e : Effect). Q (e .core)) (started (k .state .sheet)) (λ t. q .complete due g f h) h′
 
   by-command : (k : Core) (c : Command) (i : Issued) → small c ≡ true → Allowed k c i → Good k → Q k → Q (doCommand k c i .core)
-  unfolding doCommand doControl doWrite doMove doLoad done written marked linesNow checkOf traitsOf controlTraits refused small
+  unfolding doCommand doControl doWrite doMove doLoad done written writtenSheet linesNow checkOf traitsOf controlTraits refused small
   by-command k (Write m) i s a g h =
       let f = was-free refl (a .free) in
       let fits = ltb-false lineWidth (length (i .sent)) (or-right (empty (i .sent)) (ltb lineWidth (length (i .sent))) (a .sized)) in

@@ -14,7 +14,7 @@ use Rattle.copies.specs.Copies.{pairSize, pairsOf, copiesOf, sequenceCheck, sta
 use Rattle.legends.specs.Legends.{badHead, cut, segments, legendCheck, storedSegments, legendsOk, noLegends}
 use Rattle.calls.specs.Core.{Stores, Core, sizesOk, withState, withPage, withLegends, withTables, withForms, withSlots, withCopies, withSheet, linesNow}
 use Rattle.calls.specs.Commands.{codes, lookUp, decode, isUnlisted}
-use Rattle.calls.specs.Contents.{lineOk, rangesOk, dueOk, markOk, clauses, coreOk}
+use Rattle.calls.specs.Contents.{lineOk, rangesOk, dueOk, writtenOk, clauses, coreOk}
 use Rattle.calls.specs.Reset.{blankSheet, noCells, resetState, resetStores, fresh}
 use Rattle.calls.specs.Start.{asked, startRefusal}
 
@@ -97,7 +97,7 @@ unbroken =
 -- Broken contents break the one clause, and no other; what is allowed breaks none.
 pub clauses-table : (map (λ b. clauses (b .core)) broken ≡ map (λ b. set (replicate 7 true) (b .clause) false) broken)
     × (map clauses unbroken ≡ replicate 11 (replicate 7 true))
-unfolding broken unbroken flatten when firstOr every padded isSound formLengths pitchesListed pitchesOk formOk unitsOf runsFrom runs unitsTotal linesWhere printable edges fcbCheck layoutCheck layoutOf startFcb formsOf formsInRange startTable startTables startSlots slotsInRange pairsOf copiesOf sequenceCheck startCopies copiesInRange badHead cut segments legendCheck storedSegments legendsOk noLegends sizesOk linesNow lineOk rangesOk dueOk markOk blankSheet noCells resetState resetStores fresh
+unfolding broken unbroken flatten when firstOr every padded isSound formLengths pitchesListed pitchesOk formOk unitsOf runsFrom runs unitsTotal linesWhere printable edges fcbCheck layoutCheck layoutOf startFcb formsOf formsInRange startTable startTables startSlots slotsInRange pairsOf copiesOf sequenceCheck startCopies copiesInRange badHead cut segments legendCheck storedSegments legendsOk noLegends sizesOk linesNow lineOk rangesOk dueOk writtenOk blankSheet noCells resetState resetStores fresh
 clauses-table = (refl, refl)
 
 -- All cell and table bytes are allowed. (So is all legend text: `stored-ok` holds whatever the text is translated to.)

@@ -36,9 +36,9 @@ use Rattle.calls.specs.declared.State.{State}
 use Rattle.calls.specs.declared.Load.{Load}
 use Rattle.calls.specs.declared.Load.the-variants.{Fcb, TranslateTable, CopyModification, OverlaySequence, CopyNumber}
 use Rattle.calls.specs.Core.{Stores, Core, sizesOk, linesNow, P, laidOut, withState, withPage, withTables, withBlocked, withSlots, withCopies, withSheet}
-use Rattle.calls.specs.Contents.{lineOk, rangesOk, dueOk, markOk, coreOk}
+use Rattle.calls.specs.Contents.{lineOk, rangesOk, dueOk, writtenOk, coreOk}
 use Rattle.calls.specs.Reset.{blankSheet, noCells, resetState, resetStores, reset, fresh}
-use Rattle.calls.specs.Effects.{movedSheet, movedCore, moveOf, marked, written, loadCheck, atLine1, slotLoaded, slotSelected, loaded}
+use Rattle.calls.specs.Effects.{movedSheet, movedCore, moveOf, writtenSheet, written, loadCheck, atLine1, slotLoaded, slotSelected, loaded}
 use Rattle.calls.specs.Calls.{emptied}
 use Rattle.calls.specs.Start.{Asked, fixedBy, startRefusal, startWorld}
 use Rattle.calls.specs.Premises.{Sizes, FormsGood, CopiesGood, SheetGood, FixedGood, Good, Free}
@@ -68,7 +68,7 @@ good k e =
       forms = record { range = every-at 1 _ r; sound = sound-is _ (every-at 4 _ e) };
       slots = every-at 2 _ r;
       copies = record { range = every-at 3 _ r; sound = sound-is _ (every-at 5 _ e) };
-      sheet = record { low = leb-true _ _ (every-at 0 _ l); high = leb-true _ _ (every-at 1 _ l); due = every-at 2 _ e; mark = every-at 3 _ e };
+      sheet = record { low = leb-true _ _ (every-at 0 _ l); high = leb-true _ _ (every-at 1 _ l); due = every-at 2 _ e; written = every-at 3 _ e };
       legends = every-at 6 _ e;
     }
 
@@ -76,7 +76,7 @@ pub ok : (k : Core) → Good k → coreOk k ≡ true
 unfolding coreOk rangesOk every isSound
 ok k g =
     let x = g .sheet in
-    rw (sizes-ok _ (g .sizes), g .fixed, g .forms .range, g .slots, g .copies .range, line-ok _ (k .state .sheet) (x .low) (x .high), x .due, x .mark, g .forms .sound, g .copies .sound, g .legends)
+    rw (sizes-ok _ (g .sizes), g .fixed, g .forms .range, g .slots, g .copies .range, line-ok _ (k .state .sheet) (x .low) (x .high), x .due, x .written, g .forms .sound, g .copies .sound, g .legends)
 
 -- Forms control that its load takes is kept as it was sent, and has a line 1.
 pub forms-now : (r : List ℕ) → fcbNow (formsOf r) ≡ r
@@ -93,8 +93,8 @@ module _ (len : ℕ) (r : List ℕ) (l : listed formLengths len ≡ true) (e : f
   forms-line = rw (forms-now r) (some-line len r l e)
 
 pub blank-good : (p l : ℕ) → 1 ≤ l → l ≤ p → SheetGood p (blankSheet l)
-unfolding blankSheet dueOk markOk
-blank-good p l a b = record { low = a; high = b; due = refl; mark = refl }
+unfolding blankSheet dueOk writtenOk
+blank-good p l a b = record { low = a; high = b; due = refl; written = refl }
 
 pub no-cells : length noCells ≡ pageSize
 unfolding noCells
@@ -149,10 +149,10 @@ with-copies c g h = search
 
 -- A write, and a movement, while no page waits.
 pub good-write : {k : Core} (r : List ℕ) → Good k → Free k → length r ≤ lineWidth → Good (written k r)
-unfolding written marked markOk dueOk
+unfolding written writtenSheet writtenOk dueOk
 good-write {k} r g w h =
     let s = g .sheet in
-    with-sheet _ _ g (record { low = s .low; high = s .high; due = s .due; mark = rw w })
+    with-sheet _ _ g (record { low = s .low; high = s .high; due = s .due; written = rw w })
     (length-pageWritten (k .state .sheet .line) (k .stores .page) (s .low) (omega (arith, few-now k g, s .high, g .sizes .page))
     (k .state .sheet .written) _ (length-lineCells _ _ r h)
     ∙ g .sizes .page)
@@ -167,13 +167,13 @@ went-on a b (goes l (down f h i)) = (omega arith, i)
 went-on a b (goes l (over f h i)) = (h, i)
 
 moved-good : {k : Core} (due : Bool) (m : Moved) → Good k → Free k → (1 ≤ m .line) × (m .line ≤ P (k .state)) → Good (movedCore due k m)
-unfolding movedSheet dueOk markOk
+unfolding movedSheet dueOk writtenOk
 moved-good {k} due m g w h =
     let s = k .state .sheet in
     with-sheet _ (k .stores .page) g
     (cond-has (SheetGood (P (k .state))) (eqb (m .pages) 0)
-    (λ t. record { low = h .0; high = h .1; due = g .sheet .due; mark = rw (w, and-false (s .written && eqb (m .lines) 0)) })
-    (λ t. record { low = h .0; high = h .1; due = or-true (not due); mark = refl }))
+    (λ t. record { low = h .0; high = h .1; due = g .sheet .due; written = rw (w, and-false (s .written && eqb (m .lines) 0)) })
+    (λ t. record { low = h .0; high = h .1; due = or-true (not due); written = refl }))
     (g .sizes .page)
 
 pub good-move : {k : Core} (m : Moved) → Good k → Free k → Went (P (k .state)) (k .state .sheet .line) m → Good (movedCore false k m)
@@ -232,7 +232,7 @@ reference-good r e g =
     }
 
 pub good-load : {k : Core} (l : Load) (r : List ℕ) → Good k → loadCheck (k .state) l r ≡ Sound → length r ≤ legendSize → Good (loaded k l r)
-unfolding loadCheck loaded linesNow atLine1 dueOk markOk
+unfolding loadCheck loaded linesNow atLine1 dueOk writtenOk
 good-load {k} Fcb r g e h =
     let len = k .state .fixed .length in
     let l = form-listed len (k .state .fixed .pitches) (g .fixed) in

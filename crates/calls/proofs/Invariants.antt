@@ -26,7 +26,7 @@ use Rattle.calls.specs.declared.Load.{Load}
 use Rattle.calls.specs.declared.Load.the-variants.{Fcb, TranslateTable, CopyModification, OverlaySequence, CopyNumber}
 use Rattle.calls.specs.Core.{Core, World, started, Stores}
 use Rattle.calls.specs.Reset.{blankSheet, noCells, resetState, resetStores, reset}
-use Rattle.calls.specs.Effects.{movedSheet, marked, written, loadCheck, slotLoaded, slotSelected, loaded}
+use Rattle.calls.specs.Effects.{movedSheet, writtenSheet, written, loadCheck, slotLoaded, slotSelected, loaded}
 use Rattle.calls.specs.Calls.{Call, emptied, effect, step}
 use Rattle.calls.specs.Start.{Asked, startRefusal, startWorld, startOutcome}
 use Rattle.calls.specs.Premises.{FixedGood, Good, Sized, Free}
@@ -154,7 +154,7 @@ blank-reset k f (inr e) h w′ u′ = e
 
 -- A completed page waits; a load comes to a page that is not started.
 blank-survives : Survives Blank
-unfolding written marked started movedSheet toTop emptied
+unfolding written writtenSheet started movedSheet toTop emptied
 blank-survives =
     record {
       write = λ {k} r g f h q w u. absurd (true≢false (sym (or-true (not (eqb (k .state .sheet .line) 1))) ∙ u));

@@ -24,9 +24,9 @@ use Rattle.calls.specs.declared.Sheet.{Sheet}
 use Rattle.calls.specs.declared.State.{State}
 use Rattle.calls.specs.Core.{Stores, World, withBlocked, withForms, withSlots, withCopies, sizesOk, linesNow, started}
 use Rattle.calls.specs.Commands.{issued, codes, lookUp, decode, controlTraits, traitsOf}
-use Rattle.calls.specs.Contents.{lineOk, rangesOk, dueOk, markOk, coreOk}
+use Rattle.calls.specs.Contents.{lineOk, rangesOk, dueOk, writtenOk, coreOk}
 use Rattle.calls.specs.Reset.{blankSheet, noCells, resetState, resetStores, reset, fresh, byte3, senseBytes}
-use Rattle.calls.specs.Effects.{refused, done, movedSheet, moveOf, doMove, marked, written, writeCauses, doWrite, loadCheck, atLine1, slotLoaded, slotSelected, loaded, loadCauses, doLoad, completing, doControl, doCommand}
+use Rattle.calls.specs.Effects.{refused, done, movedSheet, moveOf, doMove, writtenSheet, written, writeCauses, doWrite, loadCheck, atLine1, slotLoaded, slotSelected, loaded, loadCauses, doLoad, completing, doControl, doCommand}
 use Rattle.calls.specs.Calls.{Call, command, compose, release, checkOf, movement, refusalOf, copyAt, doCompose, emptied, released, doRelease, perform, effect, step}
 use Rattle.calls.specs.Start.{asked, startRefusal, startWorld, noState, noPrinter, startOutcome}
 use Rattle.calls.specs.Lists.{Deed, commanded, wasReleased, worldAfter, counts, readOf, deedOf, finishesReset, copiesOfPage, given, sinceNow, note, sinceOver, sinceReset}
@@ -309,5 +309,5 @@ abbrev spaceThenClear : World
 spaceThenClear = worldAfter (begun tens) (cmd 0x0B ∷ cmd 0x87 ∷ [])
 
 pub table : (map see (rows ++ ours) ≡ rows ++ ours) × (map counted lists ≡ lists) × (spaceThenClear .core .state .sheet ≡ waiting 1)
-unfolding rows ours lists ran flatten zipWith when firstOr every padded causeOf rowOf isAccepted checked isSound formLengths pitchesListed pitchesOk formOk unitsOf runsFrom runs unitsTotal linesWhere printable edges fcbCheck layoutCheck layoutOf channelAt startFcb formsOf formsInRange entered round upToFirst spaced skipped moved still toTop slotAt putSlot isLoaded serving unprintable standIn cellOf translated anyUnprintable lineCells mergeRules mergeCell collides mergeLine anyCollides lineAt putLine pageWritten noCauses lineCauses orUnmatched causeByte startTable startTables startSlots slotsInRange tableCheck pairsOf copiesOf sequenceCheck markIn numberCheck withSequence withReference startCopies copyCount copyNumber copyMark copiesInRange segmentOf badHead cut segments legendCheck storedLegends legendText storedSegments legendsOk noLegends covers shown copyFrom composed sizesOk linesNow started codes lookUp decode controlTraits traitsOf lineOk rangesOk dueOk markOk coreOk blankSheet noCells resetState resetStores reset fresh byte3 senseBytes refused done movedSheet moveOf doMove marked written writeCauses doWrite loadCheck atLine1 slotLoaded slotSelected loaded loadCauses doLoad completing doControl doCommand checkOf movement refusalOf copyAt doCompose emptied released doRelease perform effect step startRefusal startWorld noState noPrinter startOutcome worldAfter counts readOf deedOf finishesReset sinceNow note sinceOver sinceReset copiesOfPage given
+unfolding rows ours lists ran flatten zipWith when firstOr every padded causeOf rowOf isAccepted checked isSound formLengths pitchesListed pitchesOk formOk unitsOf runsFrom runs unitsTotal linesWhere printable edges fcbCheck layoutCheck layoutOf channelAt startFcb formsOf formsInRange entered round upToFirst spaced skipped moved still toTop slotAt putSlot isLoaded serving unprintable standIn cellOf translated anyUnprintable lineCells mergeRules mergeCell collides mergeLine anyCollides lineAt putLine pageWritten noCauses lineCauses orUnmatched causeByte startTable startTables startSlots slotsInRange tableCheck pairsOf copiesOf sequenceCheck markIn numberCheck withSequence withReference startCopies copyCount copyNumber copyMark copiesInRange segmentOf badHead cut segments legendCheck storedLegends legendText storedSegments legendsOk noLegends covers shown copyFrom composed sizesOk linesNow started codes lookUp decode controlTraits traitsOf lineOk rangesOk dueOk writtenOk coreOk blankSheet noCells resetState resetStores reset fresh byte3 senseBytes refused done movedSheet moveOf doMove writtenSheet written writeCauses doWrite loadCheck atLine1 slotLoaded slotSelected loaded loadCauses doLoad completing doControl doCommand checkOf movement refusalOf copyAt doCompose emptied released doRelease perform effect step startRefusal startWorld noState noPrinter startOutcome worldAfter counts readOf deedOf finishesReset sinceNow note sinceOver sinceReset copiesOfPage given
 table = (refl, refl, refl)

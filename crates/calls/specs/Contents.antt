@@ -33,8 +33,8 @@ unfoldable pub dueOk : Sheet → Bool
 dueOk s = not (s .due) || s .waiting
 
 -- No line is marked written while a page waits.
-unfoldable pub markOk : Sheet → Bool
-markOk s = not (s .written && s .waiting)
+unfoldable pub writtenOk : Sheet → Bool
+writtenOk s = not (s .written && s .waiting)
 
 -- Forms control, and the overlay sequence, are such as their loads would take.
 abbrev pub formsOk : State → Bool
@@ -49,7 +49,7 @@ clauses k =
     sizesOk (k .stores)
     ∷ rangesOk (k .state)
     ∷ dueOk (k .state .sheet)
-    ∷ markOk (k .state .sheet)
+    ∷ writtenOk (k .state .sheet)
     ∷ formsOk (k .state)
     ∷ sequenceOk (k .state)
     ∷ legendsOk (k .stores .legends)

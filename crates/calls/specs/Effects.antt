@@ -71,7 +71,7 @@ done k c m =
       front = nothing;
     }
 
--- Movement: the sheet after it. A completed page waits; the mark is the current line's, so it goes when another line is entered.
+-- Movement: the sheet after it. A completed page waits; `written` is of the current line, so it goes when another line is entered.
 unfoldable pub movedSheet : Bool → Sheet → Moved → Sheet
 movedSheet due s m =
     cond (eqb (m .pages) 0)
@@ -88,15 +88,15 @@ moveOf s m = moved (linesNow s) (s .sheet .line) m
 unfoldable pub doMove : Core → Motion → Effect
 doMove k m = let mv = moveOf (k .state) m in done (movedCore false k mv) (orUnmatched noCauses (mv .missed)) mv
 
--- Writing a line, before movement: the record's cells go on the current line, and the line is marked, whatever they are.
-unfoldable pub marked : Sheet → Sheet
-marked s = record { line = s .line; written = true; waiting = s .waiting; due = s .due }
+-- Writing a line, before movement: the record's cells go on the current line, and the line is written, whatever they are.
+unfoldable pub writtenSheet : Sheet → Sheet
+writtenSheet s = record { line = s .line; written = true; waiting = s .waiting; due = s .due }
 
 unfoldable pub written : Core → List ℕ → Core
 written k r =
     let s = k .state .sheet in
     let cells = lineCells (k .state .fixed .pitches) (serving (k .state .slots) (k .stores .tables)) r in
-    withPage (withState k (withSheet (k .state) (marked s))) (pageWritten (s .written) (s .line) cells (k .stores .page))
+    withPage (withState k (withSheet (k .state) (writtenSheet s))) (pageWritten (s .written) (s .line) cells (k .stores .page))
 
 unfoldable pub writeCauses : Core → List ℕ → Causes
 writeCauses k r =

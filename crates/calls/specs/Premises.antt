@@ -20,7 +20,7 @@ use Rattle.calls.specs.declared.State.{State}
 use Rattle.calls.specs.declared.Command.{Command}
 use Rattle.calls.specs.Core.{Stores, Core, sizesOk, P, started}
 use Rattle.calls.specs.Commands.{Issued, traitsOf, isUnlisted, isLoad}
-use Rattle.calls.specs.Contents.{dueOk, markOk, coreOk}
+use Rattle.calls.specs.Contents.{dueOk, writtenOk, coreOk}
 use Rattle.calls.specs.Calls.{badRecord, checkOf}
 use Rattle.calls.specs.Start.{Asked}
 
@@ -42,7 +42,7 @@ pub record SheetGood (p : ℕ) (s : Sheet) : Type 0 where
   pub low : 1 ≤ s .line
   pub high : s .line ≤ p
   pub due : dueOk s ≡ true
-  pub mark : markOk s ≡ true
+  pub written : writtenOk s ≡ true
 
 abbrev pub FixedGood : Fixed → Type 0
 FixedGood f = formOk (f .length) (f .pitches) ≡ true

@@ -13,7 +13,7 @@ pub struct Fixed {
 }
 
 // The form and the page in work: the current line, whether it is written on, whether a completed page waits, and whether its
-// Release is to reset. Lines are only left forwards, so no other line's mark is ever asked for.
+// Release is to reset. Lines are only left forwards, so whether another line is written is never asked.
 pub struct Sheet {
     pub line: u8,
     pub written: bool,

@@ -16,7 +16,7 @@ ghost use Rattle.movement.specs.Movement.{toTop};
 ghost use Rattle.line.specs.Line.{noCauses};
 ghost use Rattle.calls.specs.Core.{Stores, storesOf};
 ghost use Rattle.calls.specs.Reset.{blankSheet};
-ghost use Rattle.calls.specs.Effects.{refused, done, movedSheet, movedCore, moveOf, marked, doMove, doWrite, standing};
+ghost use Rattle.calls.specs.Effects.{refused, done, movedSheet, movedCore, moveOf, writtenSheet, doMove, doWrite, standing};
 ghost use Rattle.printer.specs.Worlds.{Did};
 ghost use Rattle.printer.specs.Premises.{Fit, Writes};
 
@@ -51,7 +51,7 @@ pub(crate) fn blank_sheet(line: u8) -> Sheet
 }
 
 fn written_sheet(sheet: Sheet) -> Sheet
-    ensures { λ r. ⌜ r ≡ marked sheet ⌝ }
+    ensures { λ r. ⌜ r ≡ writtenSheet sheet ⌝ }
 {
     Sheet {
         line: sheet.line,

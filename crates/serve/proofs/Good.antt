@@ -17,7 +17,7 @@ use Rattle.calls.specs.Premises.{Good}
 use Rattle.calls.proofs.Good.{good, few-now}
 use Rattle.printer.specs.Premises.{Fit}
 use Rattle.state.specs.State.{stateAt, coreAt}
-use Rattle.state.proofs.Parts.{sound-good}
+use Rattle.state.proofs.Sound.{sound-good}
 use Rattle.serve.specs.Served.{Judged}
 
 fcb-short : (f : Forms) → formsInRange f ≡ true → length (fcbNow f) ≤ fcbSize

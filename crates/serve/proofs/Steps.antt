@@ -23,7 +23,7 @@ use Rattle.state.specs.Contents.{soundBytes}
 use Rattle.state.specs.Packed.{packed}
 use Rattle.state.specs.Host.{Called, called, left, shown, unread, callBytes, startBytes}
 use Rattle.state.proofs.Round.{back}
-use Rattle.state.proofs.Parts.{sound-read, sound-size}
+use Rattle.state.proofs.Sound.{sound-read, sound-size}
 use Rattle.serve.specs.Served.{Judged}
 
 module _ (w : World) (c : Call) {x : Refusal} {o : Outcome} (given : x ≡ refusalOf (w .core) c) where

@@ -1,3 +1,3 @@
 pub mod Round
-pub mod Parts
+pub mod Sound
 pub mod Fields

@@ -8,7 +8,7 @@ ghost use mathlib.Core.Bool.{true, _&&_};
 ghost use lib.ListN.{length};
 ghost use Rattle.form.specs.Form.{formOk, formsInRange};
 ghost use Rattle.calls.specs.Core.{storesOf, sizesOk, laidOut};
-ghost use Rattle.calls.specs.Contents.{dueOk, markOk};
+ghost use Rattle.calls.specs.Contents.{dueOk, writtenOk};
 ghost use Rattle.printer.specs.Layout.{stateSize};
 ghost use Rattle.state.specs.State.{stateAt};
 ghost use Rattle.state.specs.Contents.{fieldsOk, copiesOk, formsLineOk, stateOk, soundBytes};
@@ -66,7 +66,7 @@ fn fixed_ok(s: &[u8]) -> bool
 
 fn sheet_ok(s: &[u8]) -> bool
     requires { ⌜ length (now s) ≡ stateSize ⌝ }
-    ensures { λ r. ⌜ r ≡ (dueOk (stateAt (now (s .entry)) .sheet) && markOk (stateAt (now (s .entry)) .sheet)) ⌝ }
+    ensures { λ r. ⌜ r ≡ (dueOk (stateAt (now (s .entry)) .sheet) && writtenOk (stateAt (now (s .entry)) .sheet)) ⌝ }
 {
     let sheet = codec::sheet(s);
     (!sheet.due | sheet.waiting) & !(sheet.written & sheet.waiting)

@@ -21,7 +21,7 @@ use Rattle.state.specs.Contents.{soundBytes}
 use Rattle.state.specs.Packed.{packed}
 use Rattle.state.specs.Host.{Called, held, heldOf, bytesIn, shown, unread, callBytes}
 use Rattle.state.proofs.Round.{back, sense-back}
-use Rattle.state.proofs.Parts.{sound-read, sound-good}
+use Rattle.state.proofs.Sound.{sound-read, sound-good}
 use Rattle.state.proofs.Fields.{number-back}
 use Rattle.trestlepip.specs.Host.{numberIn, butSense}
 

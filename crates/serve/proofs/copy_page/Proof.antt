@@ -19,7 +19,7 @@ use Rattle.calls.proofs.Refused.{compose-keeps}
 use Rattle.printer.specs.declared.Printer.{Printer}
 use Rattle.state.specs.State.{stateAt, coreAt, worldAt}
 use Rattle.state.specs.Host.{shown}
-use Rattle.state.proofs.Parts.{sound-good}
+use Rattle.state.proofs.Sound.{sound-good}
 use Rattle.serve.proofs.Put.{left-alone}
 use Rattle.serve.proofs.Good.{judged-good, judged-fit}
 use Rattle.serve.proofs.Steps.{step-accepted, step-refused}

@@ -16,7 +16,7 @@ use Rattle.calls.specs.Calls.{command, commandTests, refusalOf, perform, outcom
 use Rattle.calls.proofs.Accepted.{check-fits}
 use Rattle.state.specs.State.{senseAt, coreAt, worldAt}
 use Rattle.state.specs.Host.{shown}
-use Rattle.state.proofs.Parts.{sound-good}
+use Rattle.state.proofs.Sound.{sound-good}
 use Rattle.serve.proofs.Steps.{step-accepted, step-refused}
 use borrow.Author.Needs.{needs}
 use Rattle.serve.proofs.obey.Statement.{statement}

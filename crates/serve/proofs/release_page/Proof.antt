@@ -10,7 +10,7 @@ use Rattle.calls.specs.Calls.{release, releaseTests, refusalOf, doRelease, perf
 use Rattle.printer.specs.declared.Printer.{Printer}
 use Rattle.state.specs.State.{worldAt}
 use Rattle.state.specs.Host.{shown}
-use Rattle.state.proofs.Parts.{sound-good}
+use Rattle.state.proofs.Sound.{sound-good}
 use Rattle.serve.proofs.Put.{put-back}
 use Rattle.serve.proofs.Good.{judged-good}
 use Rattle.serve.proofs.Steps.{step-accepted, step-refused}

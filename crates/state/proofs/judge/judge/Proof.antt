@@ -6,7 +6,7 @@ use Rattle.calls.specs.Core.{storesOf, sizesOk}
 use Rattle.calls.proofs.Good.{sizes-good}
 use Rattle.state.specs.State.{readable}
 use Rattle.state.proofs.Round.{readable-size}
-use Rattle.state.proofs.Parts.{sound-parts}
+use Rattle.state.proofs.Sound.{sound-parts}
 use borrow.Author.Needs.{needs}
 use Rattle.state.proofs.judge.judge.Statement.{statement}
 use Rattle.state.proofs.judge.judge.Tie as tie

@@ -4,7 +4,7 @@ use mathlib.Core.Bool.{true, false≢true}
 use borrow.Author.Tests.{not-true, not-false}
 use Rattle.state.specs.State.{stateAt}
 use Rattle.state.specs.Contents.{fieldsOk, copiesOk}
-use Rattle.state.proofs.Parts.{state-parts}
+use Rattle.state.proofs.Sound.{state-parts}
 use borrow.Author.Needs.{needs}
 use Rattle.state.proofs.judge.judge_state.Statement.{statement}
 use Rattle.state.proofs.judge.judge_state.Tie as tie

@@ -11,7 +11,7 @@ use Rattle.copies.specs.Copies.{copiesInRange}
 use Rattle.legends.specs.Legends.{legendsOk}
 use Rattle.calls.specs.declared.State.{State}
 use Rattle.calls.specs.Core.{Stores, sizesOk, P}
-use Rattle.calls.specs.Contents.{lineOk, rangesOk, dueOk, markOk, formsOk, sequenceOk, coreOk}
+use Rattle.calls.specs.Contents.{lineOk, rangesOk, dueOk, writtenOk, formsOk, sequenceOk, coreOk}
 use Rattle.seq.proofs.Laws.{and-left, and-right}
 use Rattle.printer.specs.Layout.{stateSize}
 use Rattle.state.specs.State.{stateAt, coreAt, readable}
@@ -37,7 +37,7 @@ state-parts s =
     let fixed = formOk (s .fixed .length) (s .fixed .pitches) in
     let x = s .sheet in
     simp and-true
-    (regroup fixed (slotsInRange (s .slots)) (dueOk x) (markOk x) (copiesInRange (s .copies)) (sequenceOk s)
+    (regroup fixed (slotsInRange (s .slots)) (dueOk x) (writtenOk x) (copiesInRange (s .copies)) (sequenceOk s)
     (formsInRange (s .forms)) (lineOk (P s) x) (formsOk s))
 
 -- readable, sizes; ranges, due, mark, FCB, sequence; legends
@@ -55,7 +55,7 @@ unfolding soundBytes coreOk stateOk every
 sound-parts s m =
     let p = stateAt s in
     simp and-true
-    (reorder (readable s) (sizesOk m) (rangesOk p) (dueOk (p .sheet)) (markOk (p .sheet)) (formsOk p) (sequenceOk p) (legendsOk (m .legends)))
+    (reorder (readable s) (sizesOk m) (rangesOk p) (dueOk (p .sheet)) (writtenOk (p .sheet)) (formsOk p) (sequenceOk p) (legendsOk (m .legends)))
 
 -- Sound bytes stand for a printer, and are as many as a state has; its contents are good.
 pub sound-read : (s : List ℕ) (m : Stores) → soundBytes s m ≡ true → readable s ≡ true
