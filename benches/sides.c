@@ -1,11 +1,11 @@
 #include "sides.h"
 
-#include "../tests/places.h"
+#include "trestlepip.h"
 #include "plain.h"
 
 #include <string.h>
 
-const struct program library = { "the library", TRESTLEPIP_STATE_BYTES, AT_SELECTED, EXPORTS(trestlepip) };
+const struct program library = { "the library", TRESTLEPIP_STATE_BYTES, TRESTLEPIP_AT_SELECTED, EXPORTS(trestlepip) };
 const struct program plain = { "plain C", PLAIN_STATE_BYTES, PLAIN_STATE_SELECTED, EXPORTS(plain) };
 
 /* Bytes that no call writes are to keep this value. */

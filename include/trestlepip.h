@@ -46,6 +46,36 @@ extern "C" {
 /* Sense's reply; a shorter reply buffer is refused with TRESTLEPIP_TOO_SHORT. */
 #define TRESTLEPIP_SENSE_BYTES 24
 
+/* The command bytes. */
+enum trestlepip_commands {
+    TRESTLEPIP_WRITE_NO_SPACE = 0x01, /* a write of its record on the current line; then it moves on so many lines */
+    TRESTLEPIP_WRITE_SPACE_1 = 0x09,
+    TRESTLEPIP_WRITE_SPACE_2 = 0x11,
+    TRESTLEPIP_WRITE_SPACE_3 = 0x19,
+    TRESTLEPIP_SPACE_1 = 0x0B, /* immediate: moves on, and writes nothing */
+    TRESTLEPIP_SPACE_2 = 0x13,
+    TRESTLEPIP_SPACE_3 = 0x1B,
+    TRESTLEPIP_NO_OP = 0x03,
+    TRESTLEPIP_SENSE = 0x04,      /* replies TRESTLEPIP_SENSE_BYTES, and clears the sense */
+    TRESTLEPIP_INITIALIZE = 0x37, /* completes a started page; resets at once, or by the release of that page */
+    TRESTLEPIP_CLEAR = 0x87,      /* completes a started page */
+    TRESTLEPIP_BLOCK = 0x73,      /* hides the data checks unprintable and multiple */
+    TRESTLEPIP_ALLOW = 0x7B,      /* shows them again */
+    TRESTLEPIP_SELECT_0 = 0x47,   /* the translate table that serves, and that the next table load fills */
+    TRESTLEPIP_SELECT_1 = 0x57,
+    TRESTLEPIP_SELECT_2 = 0x67,
+    TRESTLEPIP_SELECT_3 = 0x77,
+    TRESTLEPIP_LOAD_FCB = 0x63, /* docs/RECORDS.md has the records of the loads */
+    TRESTLEPIP_LOAD_TABLE = 0x83,
+    TRESTLEPIP_LOAD_OVERLAY_SEQUENCE = 0x43,
+    TRESTLEPIP_LOAD_COPY_NUMBER = 0x23,
+    TRESTLEPIP_LOAD_COPY_MODIFICATION = 0x35
+};
+
+/* The command bytes that skip to a channel, from 1 to 12: after a write, and immediate. */
+#define TRESTLEPIP_WRITE_SKIP(channel) (0x81 + 8 * (channel))
+#define TRESTLEPIP_SKIP(channel) (0x83 + 8 * (channel))
+
 /* The number of an answer: accepted, or the refusal. */
 enum trestlepip_numbers {
     TRESTLEPIP_ACCEPTED = 0,
@@ -106,6 +136,81 @@ static inline unsigned trestlepip_lines(uint64_t answer) { return (unsigned)tres
 
 /* The number of the composed copy, up to 509. */
 static inline unsigned trestlepip_copy_number(uint64_t answer) { return (unsigned)trestlepip_field(answer, 32, 9); }
+
+/* The bits of a status. An accepted command has ended; a waiting page makes the printer busy. */
+enum trestlepip_status_bits {
+    TRESTLEPIP_STATUS_BUSY = 0x10,
+    TRESTLEPIP_STATUS_ENDED = 0x0C,
+    TRESTLEPIP_STATUS_UNIT_CHECK = 0x02,    /* ask for the sense, before the next command sets it anew */
+    TRESTLEPIP_STATUS_UNIT_EXCEPTION = 0x01 /* a space entered a line of channel 12 */
+};
+
+/*
+ * The 24 bytes of Sense's reply: 0 the kind of check, 1 and 2 its causes, 3 how the printer stands, 4 to 21 always 0, 22 and 23 the length of an FCB
+ * record whose sum is wrong, high byte first. The names below are of bits, by the byte that they stand in.
+ */
+enum trestlepip_sense_0 {
+    TRESTLEPIP_SENSE_0_COMMAND_REJECT = 0x80, /* number 1 */
+    TRESTLEPIP_SENSE_0_DATA_CHECK = 0x08,     /* an accepted command */
+    TRESTLEPIP_SENSE_0_LOAD_CHECK = 0x02,     /* numbers 3 and 5 */
+    TRESTLEPIP_SENSE_0_CHANNEL_9 = 0x01       /* a space entered a line of channel 9 */
+};
+enum trestlepip_sense_1 {
+    TRESTLEPIP_SENSE_1_NOT_LISTED = 0x80,  /* of a command reject */
+    TRESTLEPIP_SENSE_1_UNPRINTABLE = 0x80, /* of a data check: a byte that cannot be printed. Block hides this one */
+    TRESTLEPIP_SENSE_1_NO_TABLE = 0x20,    /* the selected table is not loaded; table 0 served */
+    TRESTLEPIP_SENSE_1_NO_MATCH = 0x10,    /* no line has the channel of the skip; the page is completed */
+    TRESTLEPIP_SENSE_1_MULTIPLE = 0x08,    /* two characters in one place; the first one stays. Block hides this one */
+    TRESTLEPIP_SENSE_1_LENGTH = 0x80,      /* of a load check: causes 5, 6, 8 and 9 */
+    TRESTLEPIP_SENSE_1_SPACING = 0x40,     /* cause 2 */
+    TRESTLEPIP_SENSE_1_EDGE = 0x20,        /* cause 4 */
+    TRESTLEPIP_SENSE_1_CHANNEL = 0x10,     /* cause 1 */
+    TRESTLEPIP_SENSE_1_SUM = 0x08          /* cause 3 */
+};
+enum trestlepip_sense_2 {
+    TRESTLEPIP_SENSE_2_SEGMENT = 0x20, /* of a load check: cause 10 */
+    TRESTLEPIP_SENSE_2_SEQUENCE = 0x10 /* cause 7 */
+};
+enum trestlepip_sense_3 {
+    TRESTLEPIP_SENSE_3_READY = 0x80,  /* always */
+    TRESTLEPIP_SENSE_3_EMPTY = 0x40,  /* no page is started or waiting */
+    TRESTLEPIP_SENSE_3_BLOCKED = 0x20 /* Block is on */
+};
+enum trestlepip_sense_places { TRESTLEPIP_SENSE_COUNT_HIGH = 22, TRESTLEPIP_SENSE_COUNT_LOW = 23 };
+
+/* A cell of a page or a copy is a code: two bits of module, and six of location. These locations are the blank and the underscore of every module. */
+enum trestlepip_locations { TRESTLEPIP_BLANK = 0x00, TRESTLEPIP_UNDERSCORE = 0x2D };
+
+static inline unsigned trestlepip_module(uint8_t code) { return code >> 6; }
+static inline unsigned trestlepip_location(uint8_t code) { return code & 0x3Fu; }
+
+/*
+ * Where each field stands in the state, as docs/STATE.md says: for a program that looks into one, or keeps one over night. A name without a value
+ * stands for the byte after the one named before it.
+ */
+enum trestlepip_places {
+    TRESTLEPIP_MODULES = 4,        /* pitches */
+    TRESTLEPIP_SLOTS = 4,          /* translate tables */
+    TRESTLEPIP_SEQUENCE_MOST = 16, /* bytes of the overlay sequence; those after the count are 0 */
+    TRESTLEPIP_FCB_MOST = 144,     /* bytes of the FCB, likewise */
+    TRESTLEPIP_AT_FORM = 0, TRESTLEPIP_LAST_OF_FORM, /* high byte first */
+    TRESTLEPIP_AT_PITCH, TRESTLEPIP_LAST_OF_PITCH = TRESTLEPIP_AT_PITCH + TRESTLEPIP_MODULES - 1,
+    TRESTLEPIP_AT_BLOCK,
+    TRESTLEPIP_AT_FCB_COUNT,
+    TRESTLEPIP_AT_LOADED, TRESTLEPIP_LAST_OF_LOADED = TRESTLEPIP_AT_LOADED + TRESTLEPIP_SLOTS - 1,
+    TRESTLEPIP_AT_SELECTED,
+    TRESTLEPIP_AT_SEQUENCE_COUNT,
+    TRESTLEPIP_AT_COPY_NUMBER,
+    TRESTLEPIP_AT_LINE,
+    TRESTLEPIP_AT_WRITTEN,
+    TRESTLEPIP_AT_WAITING,
+    TRESTLEPIP_AT_RESET_DUE,
+    TRESTLEPIP_AT_SENSE_0, TRESTLEPIP_AT_SENSE_1, TRESTLEPIP_AT_SENSE_2, TRESTLEPIP_AT_SENSE_22, TRESTLEPIP_AT_SENSE_23,
+    TRESTLEPIP_AT_SEQUENCE, TRESTLEPIP_LAST_OF_SEQUENCE = TRESTLEPIP_AT_SEQUENCE + TRESTLEPIP_SEQUENCE_MOST - 1,
+    TRESTLEPIP_AT_FCB, TRESTLEPIP_LAST_OF_FCB = TRESTLEPIP_AT_FCB + TRESTLEPIP_FCB_MOST - 1,
+    TRESTLEPIP_AFTER_ALL,
+    TRESTLEPIP_SENSE_KEPT = TRESTLEPIP_AT_SEQUENCE - TRESTLEPIP_AT_SENSE_0
+};
 
 /*
  * Start: a form length in 24ths of an inch (72, 84, 96, 132, 144, 168, 192, 204, 240, 264, 288) and the pitches of four modules (0 if absent, else

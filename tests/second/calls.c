@@ -243,7 +243,7 @@ void generator_next(struct generator *g, unsigned answered, struct call *c)
     tend_damage(g, c);
     if (start_due(g, answered))
         start(g, c);
-    else if (state_of(g)[AT_WAITING] == 1)
+    else if (state_of(g)[TRESTLEPIP_AT_WAITING] == 1)
         while_waiting(g, c);
     else
         while_printing(g, c);

@@ -1,11 +1,11 @@
 /* Comparing: every byte that a call was lent, and what a refused call must leave. */
 #include "compare.h"
 
-#include "../places.h"
+#include "../../include/trestlepip.h"
 
 #include <string.h>
 
-enum { AFTER_SENSE = AT_SENSE_23 + 1 };
+enum { AFTER_SENSE = TRESTLEPIP_AT_SENSE_23 + 1 };
 
 static const char *const part_name[PARTS] = { "state", "page", "legends", "tables", "record", "reply", "output" };
 
@@ -76,9 +76,10 @@ static bool refusal_changes_state(const struct run *r, unsigned number, struct d
 {
     const uint8_t *state = store(r->library, STATE), *before = r->before[STATE];
     bool sense_set = number == 1 || number == 3 || number == 5;
-    return differs("refused, but changed: first bytes of", STATE, state, before, AT_SENSE_0, d)
+    return differs("refused, but changed: first bytes of", STATE, state, before, TRESTLEPIP_AT_SENSE_0, d)
         || differs("refused, but changed: last bytes of", STATE, state + AFTER_SENSE, before + AFTER_SENSE, store_size[STATE] - AFTER_SENSE, d)
-        || (!sense_set && differs("refused, but changed: sense in", STATE, state + AT_SENSE_0, before + AT_SENSE_0, SENSE_KEPT, d));
+        || (!sense_set
+                && differs("refused, but changed: sense in", STATE, state + TRESTLEPIP_AT_SENSE_0, before + TRESTLEPIP_AT_SENSE_0, TRESTLEPIP_SENSE_KEPT, d));
 }
 
 /* Numbers: a refused Start zeroes a right-sized state and leaves another as it is. */

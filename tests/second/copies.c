@@ -27,7 +27,7 @@ static bool bad_pair(const uint8_t *pairs, size_t count)
 /* Copies and legends: 1 to 8 whole pairs is judged first, as cause 6, then the pairs, as cause 7. */
 unsigned sequence_cause(const uint8_t *pairs, size_t count)
 {
-    if (count == 0 || count > SEQUENCE_MOST || count % 2 != 0)
+    if (count == 0 || count > TRESTLEPIP_SEQUENCE_MOST || count % 2 != 0)
         return 6;
     if (bad_pair(pairs, count) || sum_of_counts(pairs, count) > 255)
         return 7;

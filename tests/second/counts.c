@@ -1,7 +1,7 @@
 /* The table of counts. */
 #include "counts.h"
 
-#include "../places.h"
+#include "../../include/trestlepip.h"
 #include "parts.h"
 #include "second.h"
 
@@ -18,10 +18,10 @@ static unsigned causes_if_allowed(const struct call *c, uint8_t *const before[ST
     memcpy(page, before[PAGE], PAGE_BYTES);
     memcpy(legends, before[LEGENDS], LEGEND_BYTES);
     memcpy(tables, before[TABLES], TABLE_BYTES);
-    state[AT_BLOCK] = 0;
+    state[TRESTLEPIP_AT_BLOCK] = 0;
     second_command(c->command, c->record, c->record_len, NULL, 0,
             state, STATE_BYTES, page, PAGE_BYTES, legends, LEGEND_BYTES, tables, TABLE_BYTES);
-    return state[AT_SENSE_0] & 0x08 ? state[AT_SENSE_1] : 0;
+    return state[TRESTLEPIP_AT_SENSE_0] & 0x08 ? state[TRESTLEPIP_AT_SENSE_1] : 0;
 }
 
 /* Only writes and the legend load can have causes that Block hides. */
@@ -33,12 +33,12 @@ static bool translates(uint8_t command)
 /* An accepted command: its causes, shown and hidden. */
 static void add_causes(struct counts *n, const struct call *c, uint8_t *const before[STORES], const uint8_t *state)
 {
-    unsigned hidden = before[STATE][AT_BLOCK] && translates(c->command) ? causes_if_allowed(c, before) : 0;
+    unsigned hidden = before[STATE][TRESTLEPIP_AT_BLOCK] && translates(c->command) ? causes_if_allowed(c, before) : 0;
     n->hidden_unprintable += (hidden & UNPRINTABLE) != 0;
     n->hidden_multiple += (hidden & MULTIPLE) != 0;
-    n->channel_9 += state[AT_SENSE_0] & 0x01;
-    for (unsigned bit = 0x80; state[AT_SENSE_0] & 0x08 && bit != 0; bit >>= 1)
-        n->data_check[bit] += (state[AT_SENSE_1] & bit) != 0;
+    n->channel_9 += state[TRESTLEPIP_AT_SENSE_0] & 0x01;
+    for (unsigned bit = 0x80; state[TRESTLEPIP_AT_SENSE_0] & 0x08 && bit != 0; bit >>= 1)
+        n->data_check[bit] += (state[TRESTLEPIP_AT_SENSE_1] & bit) != 0;
 }
 
 /* A command of any answer; No-Op leaves the sense of an earlier one, so that its causes are none of its own. */
@@ -124,7 +124,7 @@ void counts_add(struct counts *n, const struct call *c, uint64_t answer, uint8_t
     if (c->kind == CALL_COMPOSE && taken)
         add_copy(n, answer, after);
     if (c->kind == CALL_RELEASE && taken)
-        n->deferred_reset += before[STATE][AT_RESET_DUE];
+        n->deferred_reset += before[STATE][TRESTLEPIP_AT_RESET_DUE];
     if (c->kind == CALL_START)
         add_start(n, c, answer);
     else if (sized(c))

@@ -20,7 +20,7 @@ static uint8_t other_value(struct generator *g, uint8_t old)
 static size_t damage_offset(struct generator *g, enum store store)
 {
     if (store == STATE)
-        return percent(g, 65) ? below(g, AT_SEQUENCE) : below(g, store_size[STATE]);
+        return percent(g, 65) ? below(g, TRESTLEPIP_AT_SEQUENCE) : below(g, store_size[STATE]);
     if (store == LEGENDS && percent(g, 70))
         return percent(g, 80) ? below(g, 40) : store_size[LEGENDS] - 1 - below(g, 8);
     return below(g, store_size[store]);
@@ -53,9 +53,11 @@ static void damage_byte(struct generator *g, struct call *c)
 static void damage_field(struct generator *g, struct call *c)
 {
     static const struct { uint8_t at, outside; } bytes[] = {
-        { AT_PITCH, 0 }, { AT_PITCH + 1, 1 }, { AT_PITCH + 2, 11 }, { AT_PITCH + 3, 16 }, { AT_BLOCK, 2 }, { AT_FCB_COUNT, FCB_MOST + 1 },
-        { AT_LOADED, 0 }, { AT_LOADED + 1, 2 }, { AT_LOADED + 2, 2 }, { AT_LOADED + 3, 2 }, { AT_SELECTED, SLOTS },
-        { AT_SEQUENCE_COUNT, SEQUENCE_MOST + 2 }, { AT_COPY_NUMBER, 0 }, { AT_LINE, 133 }, { AT_WRITTEN, 2 }, { AT_WAITING, 2 }, { AT_RESET_DUE, 2 }
+        { TRESTLEPIP_AT_PITCH, 0 }, { TRESTLEPIP_AT_PITCH + 1, 1 }, { TRESTLEPIP_AT_PITCH + 2, 11 }, { TRESTLEPIP_AT_PITCH + 3, 16 },
+        { TRESTLEPIP_AT_BLOCK, 2 }, { TRESTLEPIP_AT_FCB_COUNT, TRESTLEPIP_FCB_MOST + 1 }, { TRESTLEPIP_AT_LOADED, 0 }, { TRESTLEPIP_AT_LOADED + 1, 2 },
+        { TRESTLEPIP_AT_LOADED + 2, 2 }, { TRESTLEPIP_AT_LOADED + 3, 2 }, { TRESTLEPIP_AT_SELECTED, TRESTLEPIP_SLOTS },
+        { TRESTLEPIP_AT_SEQUENCE_COUNT, TRESTLEPIP_SEQUENCE_MOST + 2 }, { TRESTLEPIP_AT_COPY_NUMBER, 0 }, { TRESTLEPIP_AT_LINE, 133 },
+        { TRESTLEPIP_AT_WRITTEN, 2 }, { TRESTLEPIP_AT_WAITING, 2 }, { TRESTLEPIP_AT_RESET_DUE, 2 }
     };
     unsigned i = below(g, COUNT(bytes));
     set_byte(g, c, STATE, bytes[i].at, bytes[i].outside);
@@ -64,9 +66,9 @@ static void damage_field(struct generator *g, struct call *c)
 /* A page that waits though none was completed, in a state that is mostly a printer's otherwise. */
 static void damage_to_waiting(struct generator *g, struct call *c)
 {
-    set_byte(g, c, STATE, AT_WRITTEN, percent(g, 15));
-    set_byte(g, c, STATE, AT_WAITING, 1);
-    set_byte(g, c, STATE, AT_RESET_DUE, below(g, 2));
+    set_byte(g, c, STATE, TRESTLEPIP_AT_WRITTEN, percent(g, 15));
+    set_byte(g, c, STATE, TRESTLEPIP_AT_WAITING, 1);
+    set_byte(g, c, STATE, TRESTLEPIP_AT_RESET_DUE, below(g, 2));
 }
 
 /* Another line of the form, often the last or the one after it. */
@@ -74,10 +76,10 @@ static void damage_line(struct generator *g, struct call *c)
 {
     unsigned last = lines_now(g);
     switch (below(g, 4)) {
-    case 0: set_byte(g, c, STATE, AT_LINE, last); break;
-    case 1: set_byte(g, c, STATE, AT_LINE, last + 1); break;
-    case 2: set_byte(g, c, STATE, AT_LINE, between(g, 1, last)); break;
-    default: set_byte(g, c, STATE, AT_LINE, 0); break;
+    case 0: set_byte(g, c, STATE, TRESTLEPIP_AT_LINE, last); break;
+    case 1: set_byte(g, c, STATE, TRESTLEPIP_AT_LINE, last + 1); break;
+    case 2: set_byte(g, c, STATE, TRESTLEPIP_AT_LINE, between(g, 1, last)); break;
+    default: set_byte(g, c, STATE, TRESTLEPIP_AT_LINE, 0); break;
     }
 }
 
@@ -95,14 +97,14 @@ static void damage_fcb(struct generator *g, struct call *c)
 {
     memset(c->record, 0, CHANGE_MOST);
     fcb_record(g, c);
-    set_array(g, c, AT_FCB_COUNT, AT_FCB, FCB_MOST);
+    set_array(g, c, TRESTLEPIP_AT_FCB_COUNT, TRESTLEPIP_AT_FCB, TRESTLEPIP_FCB_MOST);
 }
 
 /* A whole overlay sequence in the state, taken by its load or not. */
 static void damage_sequence(struct generator *g, struct call *c)
 {
     sequence_record(g, c);
-    set_array(g, c, AT_SEQUENCE_COUNT, AT_SEQUENCE, SEQUENCE_MOST);
+    set_array(g, c, TRESTLEPIP_AT_SEQUENCE_COUNT, TRESTLEPIP_AT_SEQUENCE, TRESTLEPIP_SEQUENCE_MOST);
 }
 
 /* Legends over the front of the store, taken by their load or not. */

@@ -22,7 +22,7 @@ static bool pitch_listed(uint32_t pitch)
 }
 
 /* Form and forms control: four pitches, and module 0 fitted. */
-bool pitches_listed(const uint32_t pitch[MODULES])
+bool pitches_listed(const uint32_t pitch[TRESTLEPIP_MODULES])
 {
     return pitch[0] != 0 && pitch_listed(pitch[0]) && pitch_listed(pitch[1]) && pitch_listed(pitch[2]) && pitch_listed(pitch[3]);
 }
@@ -116,7 +116,7 @@ unsigned fcb_cause(unsigned form, const uint8_t *fcb, size_t count)
 /* Form and forms control: 6 lines per inch, channel 1 at line 1, which comes after three lines of margin. */
 void starting_fcb(struct printer *p)
 {
-    memset(p->fcb, 0, FCB_MOST);
+    memset(p->fcb, 0, TRESTLEPIP_FCB_MOST);
     p->fcb_count = p->form / 4;
     p->fcb[3] = 1;
 }

@@ -2,7 +2,7 @@
 #ifndef MAKING_H
 #define MAKING_H
 
-#include "../places.h"
+#include "../../include/trestlepip.h"
 #include "calls.h"
 
 enum { LINE_CELLS = 204, WRITE_MOST = 204, LOAD_MOST = 8192, SLOT_BYTES = 256, REPLY_BYTES = 24, HEAD = 6, SEGMENT_LEAST = 7 };

@@ -2,7 +2,7 @@
 #ifndef SECOND_PARTS_H
 #define SECOND_PARTS_H
 
-#include "../places.h"
+#include "../../include/trestlepip.h"
 
 #include <stdbool.h>
 #include <stddef.h>
@@ -14,7 +14,7 @@ enum {
     PAGE_BYTES = 132 * LINE_CELLS,
     LEGEND_BYTES = 8192,
     SLOT_BYTES = 256,
-    TABLE_BYTES = SLOTS * SLOT_BYTES,
+    TABLE_BYTES = TRESTLEPIP_SLOTS * SLOT_BYTES,
     REPLY_BYTES = 24,
     LOAD_MOST = 8192,
     HALF_INCH = 12,
@@ -27,10 +27,10 @@ enum { UNPRINTABLE = 0x80, NO_TABLE = 0x20, NO_MATCH = 0x10, MULTIPLE = 0x08 };
 /* The state, a member for each row of STATE.md; sense holds bytes 0, 1, 2, 22 and 23. */
 struct printer {
     unsigned form;
-    uint32_t pitch[MODULES];
+    uint32_t pitch[TRESTLEPIP_MODULES];
     unsigned block;
     unsigned fcb_count;
-    unsigned loaded[SLOTS];
+    unsigned loaded[TRESTLEPIP_SLOTS];
     unsigned selected;
     unsigned sequence_count;
     unsigned copy_number;
@@ -38,9 +38,9 @@ struct printer {
     unsigned written;
     unsigned waiting;
     unsigned reset_due;
-    uint8_t sense[SENSE_KEPT];
-    uint8_t sequence[SEQUENCE_MOST];
-    uint8_t fcb[FCB_MOST];
+    uint8_t sense[TRESTLEPIP_SENSE_KEPT];
+    uint8_t sequence[TRESTLEPIP_SEQUENCE_MOST];
+    uint8_t fcb[TRESTLEPIP_FCB_MOST];
 };
 
 /* What a space or a skip does to the form. */
@@ -61,7 +61,7 @@ bool all_zero(const uint8_t *bytes, size_t count);
 
 /* form.c */
 bool form_listed(uint32_t form);
-bool pitches_listed(const uint32_t pitch[MODULES]);
+bool pitches_listed(const uint32_t pitch[TRESTLEPIP_MODULES]);
 unsigned fcb_cause(unsigned form, const uint8_t *fcb, size_t count);
 void starting_fcb(struct printer *p);
 unsigned printable_lines(const struct printer *p);

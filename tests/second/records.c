@@ -12,7 +12,7 @@ const uint8_t *state_of(const struct generator *g)
 
 unsigned form_now(const struct generator *g)
 {
-    return state_of(g)[AT_FORM] * 256u + state_of(g)[AT_FORM + 1];
+    return state_of(g)[TRESTLEPIP_AT_FORM] * 256u + state_of(g)[TRESTLEPIP_AT_FORM + 1];
 }
 
 /* The units of an FCB byte; a damaged one counts as 6 lines per inch. */
@@ -26,9 +26,9 @@ unsigned lines_now(const struct generator *g)
 {
     const uint8_t *s = state_of(g);
     unsigned top = 0, lines = 0;
-    for (unsigned i = 0; i < s[AT_FCB_COUNT] && i < FCB_MOST; i++) {
+    for (unsigned i = 0; i < s[TRESTLEPIP_AT_FCB_COUNT] && i < TRESTLEPIP_FCB_MOST; i++) {
         lines += top >= 12 && top + 12 < form_now(g);
-        top += units(s[AT_FCB + i]);
+        top += units(s[TRESTLEPIP_AT_FCB + i]);
     }
     return lines == 0 ? 1 : lines > 132 ? 132 : lines;
 }
@@ -38,33 +38,33 @@ unsigned copies_now(const struct generator *g)
 {
     const uint8_t *s = state_of(g);
     unsigned copies = 0;
-    for (unsigned i = 0; i < s[AT_SEQUENCE_COUNT] && i < SEQUENCE_MOST; i += 2)
-        copies += s[AT_SEQUENCE + i];
+    for (unsigned i = 0; i < s[TRESTLEPIP_AT_SEQUENCE_COUNT] && i < TRESTLEPIP_SEQUENCE_MOST; i += 2)
+        copies += s[TRESTLEPIP_AT_SEQUENCE + i];
     return copies == 0 ? 1 : copies;
 }
 
 bool started_now(const struct generator *g)
 {
-    return state_of(g)[AT_LINE] != 1 || state_of(g)[AT_WRITTEN] != 0;
+    return state_of(g)[TRESTLEPIP_AT_LINE] != 1 || state_of(g)[TRESTLEPIP_AT_WRITTEN] != 0;
 }
 
 /* A channel that some line of the FCB has, or any if the line looked at has none. */
 unsigned channel_near(struct generator *g)
 {
     const uint8_t *s = state_of(g);
-    unsigned count = s[AT_FCB_COUNT] > FCB_MOST ? FCB_MOST : s[AT_FCB_COUNT];
+    unsigned count = s[TRESTLEPIP_AT_FCB_COUNT] > TRESTLEPIP_FCB_MOST ? TRESTLEPIP_FCB_MOST : s[TRESTLEPIP_AT_FCB_COUNT];
     unsigned first = below(g, count);
     for (unsigned i = first; i < count; i++)
-        if (s[AT_FCB + i] % 16 >= 1 && s[AT_FCB + i] % 16 <= 12)
-            return s[AT_FCB + i] % 16u;
+        if (s[TRESTLEPIP_AT_FCB + i] % 16 >= 1 && s[TRESTLEPIP_AT_FCB + i] % 16 <= 12)
+            return s[TRESTLEPIP_AT_FCB + i] % 16u;
     return between(g, 1, 12);
 }
 
 /* A slot that is loaded, mostly one of the higher. */
 unsigned slot_near(struct generator *g)
 {
-    unsigned slot = below(g, SLOTS);
-    while (slot > 0 && state_of(g)[AT_LOADED + slot] != 1)
+    unsigned slot = below(g, TRESTLEPIP_SLOTS);
+    while (slot > 0 && state_of(g)[TRESTLEPIP_AT_LOADED + slot] != 1)
         slot--;
     return slot;
 }
@@ -360,7 +360,7 @@ void number_record(struct generator *g, struct call *c)
 /* The copies and lines of a segment: mostly some that the page has. */
 static void segment_place(struct generator *g, uint8_t *s)
 {
-    unsigned first = state_of(g)[AT_COPY_NUMBER] + below(g, copies_now(g));
+    unsigned first = state_of(g)[TRESTLEPIP_AT_COPY_NUMBER] + below(g, copies_now(g));
     s[0] = (uint8_t)(percent(g, 85) && first <= 255 && first != 0 ? first : between(g, 1, 255));
     s[1] = (uint8_t)(percent(g, 70) ? between(g, 1, copies_now(g) < 255 ? copies_now(g) : 255) : between(g, 1, 255));
     s[2] = (uint8_t)(percent(g, 85) ? between(g, 1, lines_now(g)) : between(g, 1, 255));

@@ -3,7 +3,7 @@
 
 #include "script.h"
 
-#include "../places.h"
+#include "../../include/trestlepip.h"
 #include "calls.h"
 #include "second.h"
 
@@ -166,9 +166,9 @@ static void tell_answer(FILE *to, uint64_t answer)
 /* The sense, the current line, and that line's first cell if the page has it. */
 static void tell_state(FILE *to, const uint8_t *state, const uint8_t *page)
 {
-    size_t line = state[AT_LINE];
-    fprintf(to, " | sense %02X %02X %02X .. %02X %02X line %zu", state[AT_SENSE_0], state[AT_SENSE_1], state[AT_SENSE_2],
-            state[AT_SENSE_22], state[AT_SENSE_23], line);
+    size_t line = state[TRESTLEPIP_AT_LINE];
+    fprintf(to, " | sense %02X %02X %02X .. %02X %02X line %zu", state[TRESTLEPIP_AT_SENSE_0], state[TRESTLEPIP_AT_SENSE_1], state[TRESTLEPIP_AT_SENSE_2],
+            state[TRESTLEPIP_AT_SENSE_22], state[TRESTLEPIP_AT_SENSE_23], line);
     if (line != 0 && line * TRESTLEPIP_LINE_CELLS <= TRESTLEPIP_PAGE_BYTES)
         fprintf(to, " cell %02X", page[(line - 1) * TRESTLEPIP_LINE_CELLS]);
 }
@@ -180,7 +180,7 @@ static void tell_stores(FILE *to, const struct player *p)
     for (enum store i = STATE; i <= TABLES; i++) {
         tell_count(to, parts[i].name, count_unlike(p->lent[i], p->before[i], parts[i].size + 1));
         if (i == STATE)
-            tell_count(to, "sense", count_unlike(p->lent[i] + AT_SENSE_0, p->before[i] + AT_SENSE_0, SENSE_KEPT));
+            tell_count(to, "sense", count_unlike(p->lent[i] + TRESTLEPIP_AT_SENSE_0, p->before[i] + TRESTLEPIP_AT_SENSE_0, TRESTLEPIP_SENSE_KEPT));
     }
     fprintf(to, " | filled");
     for (enum store i = STATE; i <= TABLES; i++)

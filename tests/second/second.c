@@ -115,7 +115,7 @@ static bool is_load(enum kind kind)
 /* Reset and sense: the sense set anew; bytes 22 and 23 are 00 but for an FCB's wrong sum. */
 static void set_sense(struct printer *p, unsigned byte_0, unsigned byte_1, unsigned byte_2)
 {
-    memset(p->sense, 0, SENSE_KEPT);
+    memset(p->sense, 0, TRESTLEPIP_SENSE_KEPT);
     p->sense[0] = (uint8_t)byte_0;
     p->sense[1] = (uint8_t)byte_1;
     p->sense[2] = (uint8_t)byte_2;
@@ -127,7 +127,7 @@ static void reset(struct printer *p, uint8_t *legends, uint8_t *tables)
     starting_fcb(p);
     starting_tables(tables);
     memset(legends, 0, LEGEND_BYTES);
-    memset(p->sequence, 0, SEQUENCE_MOST);
+    memset(p->sequence, 0, TRESTLEPIP_SEQUENCE_MOST);
     p->sequence[0] = 1;
     p->sequence_count = 2;
     p->copy_number = 1;
@@ -211,14 +211,14 @@ static struct answer sense(struct printer *p, const struct lent *l)
     memcpy(l->reply, p->sense, 3);
     l->reply[3] = sense_byte_3(p);
     memcpy(l->reply + 22, p->sense + 3, 2);
-    memset(p->sense, 0, SENSE_KEPT);
+    memset(p->sense, 0, TRESTLEPIP_SENSE_KEPT);
     return (struct answer){ .status = 0x0C };
 }
 
 /* Form and forms control: an accepted load puts the form at line 1. */
 static void load_fcb(struct printer *p, const struct lent *l)
 {
-    memset(p->fcb, 0, FCB_MOST);
+    memset(p->fcb, 0, TRESTLEPIP_FCB_MOST);
     memcpy(p->fcb, l->record, l->record_len);
     p->fcb_count = (unsigned)l->record_len;
     p->line = 1;
@@ -234,7 +234,7 @@ static void load_table(struct printer *p, const struct lent *l)
 /* Copies and legends: the pairs replace those before. */
 static void load_sequence(struct printer *p, const struct lent *l)
 {
-    memset(p->sequence, 0, SEQUENCE_MOST);
+    memset(p->sequence, 0, TRESTLEPIP_SEQUENCE_MOST);
     memcpy(p->sequence, l->record, l->record_len);
     p->sequence_count = (unsigned)l->record_len;
 }
@@ -362,7 +362,7 @@ uint64_t second_command(uint8_t command,
 }
 
 /* Calls, Start: sizes, then form and pitches; what the buffers held is not looked at. */
-static struct answer judge_start(uint32_t form, const uint32_t pitch[MODULES], bool sized)
+static struct answer judge_start(uint32_t form, const uint32_t pitch[TRESTLEPIP_MODULES], bool sized)
 {
     if (!sized)
         return refused(9, 0x00);
@@ -372,7 +372,7 @@ static struct answer judge_start(uint32_t form, const uint32_t pitch[MODULES], b
 }
 
 /* Calls, Start: the state of a new printer; the stores as after Initialize, with the page set to zeros. */
-static void new_printer(uint32_t form, const uint32_t pitch[MODULES], struct printer *p, uint8_t *page, uint8_t *legends, uint8_t *tables)
+static void new_printer(uint32_t form, const uint32_t pitch[TRESTLEPIP_MODULES], struct printer *p, uint8_t *page, uint8_t *legends, uint8_t *tables)
 {
     memset(p, 0, sizeof *p);
     p->form = form;
@@ -388,7 +388,7 @@ uint64_t second_start(uint32_t form,
         uint8_t *legends, size_t legends_len, uint8_t *tables, size_t tables_len)
 {
     struct printer p;
-    const uint32_t pitch[MODULES] = { pitch0, pitch1, pitch2, pitch3 };
+    const uint32_t pitch[TRESTLEPIP_MODULES] = { pitch0, pitch1, pitch2, pitch3 };
     bool sized = state_len == STATE_BYTES && stores_sized(page_len, legends_len, tables_len);
     struct answer a = judge_start(form, pitch, sized);
     if (a.number == 0) {

@@ -6,58 +6,58 @@
 /* STATE.md: the fields of one byte, in its order. */
 static void decode_singles(const uint8_t *bytes, struct printer *p)
 {
-    p->block = bytes[AT_BLOCK];
-    p->fcb_count = bytes[AT_FCB_COUNT];
-    p->selected = bytes[AT_SELECTED];
-    p->sequence_count = bytes[AT_SEQUENCE_COUNT];
-    p->copy_number = bytes[AT_COPY_NUMBER];
-    p->line = bytes[AT_LINE];
-    p->written = bytes[AT_WRITTEN];
-    p->waiting = bytes[AT_WAITING];
-    p->reset_due = bytes[AT_RESET_DUE];
+    p->block = bytes[TRESTLEPIP_AT_BLOCK];
+    p->fcb_count = bytes[TRESTLEPIP_AT_FCB_COUNT];
+    p->selected = bytes[TRESTLEPIP_AT_SELECTED];
+    p->sequence_count = bytes[TRESTLEPIP_AT_SEQUENCE_COUNT];
+    p->copy_number = bytes[TRESTLEPIP_AT_COPY_NUMBER];
+    p->line = bytes[TRESTLEPIP_AT_LINE];
+    p->written = bytes[TRESTLEPIP_AT_WRITTEN];
+    p->waiting = bytes[TRESTLEPIP_AT_WAITING];
+    p->reset_due = bytes[TRESTLEPIP_AT_RESET_DUE];
 }
 
 /* STATE.md, read; any bytes are taken here and judged later. */
 void decode(const uint8_t *bytes, struct printer *p)
 {
-    p->form = bytes[AT_FORM] * 256u + bytes[AT_FORM + 1];
+    p->form = bytes[TRESTLEPIP_AT_FORM] * 256u + bytes[TRESTLEPIP_AT_FORM + 1];
     decode_singles(bytes, p);
-    for (unsigned i = 0; i < MODULES; i++)
-        p->pitch[i] = bytes[AT_PITCH + i];
-    for (unsigned i = 0; i < SLOTS; i++)
-        p->loaded[i] = bytes[AT_LOADED + i];
-    memcpy(p->sense, bytes + AT_SENSE_0, SENSE_KEPT);
-    memcpy(p->sequence, bytes + AT_SEQUENCE, SEQUENCE_MOST);
-    memcpy(p->fcb, bytes + AT_FCB, FCB_MOST);
+    for (unsigned i = 0; i < TRESTLEPIP_MODULES; i++)
+        p->pitch[i] = bytes[TRESTLEPIP_AT_PITCH + i];
+    for (unsigned i = 0; i < TRESTLEPIP_SLOTS; i++)
+        p->loaded[i] = bytes[TRESTLEPIP_AT_LOADED + i];
+    memcpy(p->sense, bytes + TRESTLEPIP_AT_SENSE_0, TRESTLEPIP_SENSE_KEPT);
+    memcpy(p->sequence, bytes + TRESTLEPIP_AT_SEQUENCE, TRESTLEPIP_SEQUENCE_MOST);
+    memcpy(p->fcb, bytes + TRESTLEPIP_AT_FCB, TRESTLEPIP_FCB_MOST);
 }
 
 /* STATE.md: the fields of one byte again, written. */
 static void encode_singles(const struct printer *p, uint8_t *bytes)
 {
-    bytes[AT_BLOCK] = (uint8_t)p->block;
-    bytes[AT_FCB_COUNT] = (uint8_t)p->fcb_count;
-    bytes[AT_SELECTED] = (uint8_t)p->selected;
-    bytes[AT_SEQUENCE_COUNT] = (uint8_t)p->sequence_count;
-    bytes[AT_COPY_NUMBER] = (uint8_t)p->copy_number;
-    bytes[AT_LINE] = (uint8_t)p->line;
-    bytes[AT_WRITTEN] = (uint8_t)p->written;
-    bytes[AT_WAITING] = (uint8_t)p->waiting;
-    bytes[AT_RESET_DUE] = (uint8_t)p->reset_due;
+    bytes[TRESTLEPIP_AT_BLOCK] = (uint8_t)p->block;
+    bytes[TRESTLEPIP_AT_FCB_COUNT] = (uint8_t)p->fcb_count;
+    bytes[TRESTLEPIP_AT_SELECTED] = (uint8_t)p->selected;
+    bytes[TRESTLEPIP_AT_SEQUENCE_COUNT] = (uint8_t)p->sequence_count;
+    bytes[TRESTLEPIP_AT_COPY_NUMBER] = (uint8_t)p->copy_number;
+    bytes[TRESTLEPIP_AT_LINE] = (uint8_t)p->line;
+    bytes[TRESTLEPIP_AT_WRITTEN] = (uint8_t)p->written;
+    bytes[TRESTLEPIP_AT_WAITING] = (uint8_t)p->waiting;
+    bytes[TRESTLEPIP_AT_RESET_DUE] = (uint8_t)p->reset_due;
 }
 
 /* STATE.md, written. */
 void encode(const struct printer *p, uint8_t *bytes)
 {
-    bytes[AT_FORM] = (uint8_t)(p->form / 256u);
-    bytes[AT_FORM + 1] = (uint8_t)(p->form % 256u);
+    bytes[TRESTLEPIP_AT_FORM] = (uint8_t)(p->form / 256u);
+    bytes[TRESTLEPIP_AT_FORM + 1] = (uint8_t)(p->form % 256u);
     encode_singles(p, bytes);
-    for (unsigned i = 0; i < MODULES; i++)
-        bytes[AT_PITCH + i] = (uint8_t)p->pitch[i];
-    for (unsigned i = 0; i < SLOTS; i++)
-        bytes[AT_LOADED + i] = (uint8_t)p->loaded[i];
-    memcpy(bytes + AT_SENSE_0, p->sense, SENSE_KEPT);
-    memcpy(bytes + AT_SEQUENCE, p->sequence, SEQUENCE_MOST);
-    memcpy(bytes + AT_FCB, p->fcb, FCB_MOST);
+    for (unsigned i = 0; i < TRESTLEPIP_MODULES; i++)
+        bytes[TRESTLEPIP_AT_PITCH + i] = (uint8_t)p->pitch[i];
+    for (unsigned i = 0; i < TRESTLEPIP_SLOTS; i++)
+        bytes[TRESTLEPIP_AT_LOADED + i] = (uint8_t)p->loaded[i];
+    memcpy(bytes + TRESTLEPIP_AT_SENSE_0, p->sense, TRESTLEPIP_SENSE_KEPT);
+    memcpy(bytes + TRESTLEPIP_AT_SEQUENCE, p->sequence, TRESTLEPIP_SEQUENCE_MOST);
+    memcpy(bytes + TRESTLEPIP_AT_FCB, p->fcb, TRESTLEPIP_FCB_MOST);
 }
 
 /* Bytes not in use are 00, so that one printer has one state; a store is never longer than the legends here. */
@@ -76,15 +76,15 @@ static bool slots_in_range(const struct printer *p)
 /* Numbers: forms control that its load would refuse is contents no printer has. */
 static bool fcb_in_range(const struct printer *p)
 {
-    return p->fcb_count <= FCB_MOST && fcb_cause(p->form, p->fcb, p->fcb_count) == 0
-        && all_zero(p->fcb + p->fcb_count, FCB_MOST - p->fcb_count);
+    return p->fcb_count <= TRESTLEPIP_FCB_MOST && fcb_cause(p->form, p->fcb, p->fcb_count) == 0
+        && all_zero(p->fcb + p->fcb_count, TRESTLEPIP_FCB_MOST - p->fcb_count);
 }
 
 /* Numbers: an overlay sequence that its load would refuse likewise. */
 static bool sequence_in_range(const struct printer *p)
 {
-    return p->sequence_count <= SEQUENCE_MOST && sequence_cause(p->sequence, p->sequence_count) == 0
-        && all_zero(p->sequence + p->sequence_count, SEQUENCE_MOST - p->sequence_count);
+    return p->sequence_count <= TRESTLEPIP_SEQUENCE_MOST && sequence_cause(p->sequence, p->sequence_count) == 0
+        && all_zero(p->sequence + p->sequence_count, TRESTLEPIP_SEQUENCE_MOST - p->sequence_count);
 }
 
 /* Numbers: line, marks and waiting page agree with each other; the forms control must have been judged before. */
@@ -102,6 +102,6 @@ static bool page_in_range(const struct printer *p)
 /* Numbers, 9: contents no printer has, without the sizes. */
 bool contents_of_a_printer(const struct printer *p, const uint8_t *legends)
 {
-    return form_listed(p->form) && pitches_listed(p->pitch) && p->block <= 1 && slots_in_range(p) && p->selected < SLOTS
+    return form_listed(p->form) && pitches_listed(p->pitch) && p->block <= 1 && slots_in_range(p) && p->selected < TRESTLEPIP_SLOTS
         && p->copy_number >= 1 && fcb_in_range(p) && sequence_in_range(p) && page_in_range(p) && legends_as_stored(legends);
 }

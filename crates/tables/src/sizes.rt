@@ -1,4 +1,4 @@
-// The sizes by their names in include/trestlepip.h, and the state's fields by their names in tests/places.h.
+// The sizes and the state's fields, by their names in include/trestlepip.h.
 use numbers::Stores;
 use printer::Printer;
 use script::show;
