@@ -78,33 +78,33 @@ enum trestlepip_commands {
 
 /* The number of an answer: accepted, or the refusal. */
 enum trestlepip_numbers {
-    TRESTLEPIP_ACCEPTED = 0,
-    TRESTLEPIP_NOT_LISTED = 1,   /* the byte is not among the commands */
+    TRESTLEPIP_ACCEPTED = 0,     /* accepted */
+    TRESTLEPIP_NOT_LISTED = 1,   /* the command byte is not listed */
     TRESTLEPIP_BAD_RECORD = 2,   /* a write's record is empty or over 204 bytes, or a load's over 8,192 */
-    TRESTLEPIP_LOAD_CHECK = 3,   /* a load's record is faulty: see the cause */
+    TRESTLEPIP_LOAD_CHECK = 3,   /* the record of a load is faulty */
     TRESTLEPIP_PAGE_WAITING = 4, /* a completed page waits for its release */
-    TRESTLEPIP_PAGE_STARTED = 5, /* a load on a started page */
-    TRESTLEPIP_NO_PAGE = 6,      /* compose or release with no page waiting */
-    TRESTLEPIP_BAD_INDEX = 7,    /* copy index 0, or above the copies */
+    TRESTLEPIP_PAGE_STARTED = 5, /* a load came on a started page */
+    TRESTLEPIP_NO_PAGE = 6,      /* no completed page waits */
+    TRESTLEPIP_BAD_INDEX = 7,    /* there is no copy with this index */
     TRESTLEPIP_TOO_SHORT = 8,    /* the output or the reply buffer is too short */
-    TRESTLEPIP_BAD_STORE = 9,    /* a lent buffer of wrong size, or contents that no printer has */
-    TRESTLEPIP_BAD_FORM = 10,    /* start: a form length or a pitch that is not listed */
-    TRESTLEPIP_TWO_PAGES = 11    /* one command would complete two pages; no printer with good contents gets there */
+    TRESTLEPIP_BAD_STORE = 9,    /* a lent buffer has the wrong size, or holds what no printer leaves there */
+    TRESTLEPIP_BAD_FORM = 10,    /* the form length or a pitch is not listed */
+    TRESTLEPIP_TWO_PAGES = 11    /* one command would complete two pages */
 };
 
 /* The cause of a load check. */
 enum trestlepip_causes {
     TRESTLEPIP_NO_CAUSE = 0,
-    TRESTLEPIP_FCB_CHANNEL = 1,     /* a channel above 12 */
-    TRESTLEPIP_FCB_SPACING = 2,     /* an upper half that is no spacing, or a run that is not whole half inches */
-    TRESTLEPIP_FCB_SUM = 3,         /* the lines do not add up to the form */
-    TRESTLEPIP_FCB_EDGE = 4,        /* a channel in the first or last half inch */
-    TRESTLEPIP_TABLE_SHORT = 5,     /* a translate table under 256 bytes */
-    TRESTLEPIP_SEQUENCE_PAIRS = 6,  /* an overlay sequence that is not 1 to 8 whole pairs */
-    TRESTLEPIP_SEQUENCE_COUNTS = 7, /* an overlay sequence with a zero count, another mark, or a total above 255 */
-    TRESTLEPIP_NUMBER_RECORD = 8,   /* a copy number that is not one byte other than zero */
-    TRESTLEPIP_SEGMENT_ENDS = 9,    /* a copy modification that ends inside a segment, or is empty */
-    TRESTLEPIP_SEGMENT_FIELDS = 10  /* a copy modification with a zero among the six, or positions past 204 */
+    TRESTLEPIP_FCB_CHANNEL = 1,     /* FCB: a channel above 12 */
+    TRESTLEPIP_FCB_SPACING = 2,     /* FCB: a spacing other than 6, 8 or 12 lines per inch, or a run of one spacing that is not whole half inches */
+    TRESTLEPIP_FCB_SUM = 3,         /* FCB: the lines do not add up to the form */
+    TRESTLEPIP_FCB_EDGE = 4,        /* FCB: a channel in the first or last half inch */
+    TRESTLEPIP_TABLE_SHORT = 5,     /* translate table: shorter than 256 bytes */
+    TRESTLEPIP_SEQUENCE_PAIRS = 6,  /* overlay sequence: not 1 to 8 whole pairs */
+    TRESTLEPIP_SEQUENCE_COUNTS = 7, /* overlay sequence: a count of zero, a mark other than 0 or 1, or more than 255 copies */
+    TRESTLEPIP_NUMBER_RECORD = 8,   /* copy number: not exactly one byte, or zero */
+    TRESTLEPIP_SEGMENT_ENDS = 9,    /* copy modification: empty, or ends inside a segment */
+    TRESTLEPIP_SEGMENT_FIELDS = 10  /* copy modification: a zero among the six bytes, or text past position 204 */
 };
 
 /*

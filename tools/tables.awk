@@ -1,7 +1,7 @@
-# For tools/tables: holds docs/STATE.md, docs/HELP-CARD.md and the header's comments to the listing, which is the first file. Variables: state, card.
+# For tools/tables: holds docs/STATE.md, docs/NUMBERS.md and the header's comments to the listing, which is the first file. Variables: state, card.
 #
 #   docs/STATE.md      under a head `| Byte`: a row for each field, in order, with its bytes (`0, 1` or `2 to 5`) and a word of its name; no other row
-#   docs/HELP-CARD.md  under `| Number` and `| Cause`: a row for each, in order; no other row; and what a column `Status` or `Sense` states
+#   docs/NUMBERS.md    under `| Number` and `| Cause`: a row for each, in order; no other row; and what a column `Status` or `Sense` states
 #   all three          the sizes in the phrases at the end, where such a phrase stands
 function differ(what) { print what; bad = 1 }
 function here(what) { differ(FILENAME ":" FNR ": " what) }
