@@ -1,14 +1,18 @@
-# shellcheck shell=sh
-# Sourced from the root by ./morning, ./test and ./bench: which compilers and emulator serve, what to install, how library and programs are built.
+# shellcheck shell=sh disable=SC2034 # the scripts that source this use the variables
+# Sourced by the scripts: which compilers and emulator serve, what to install, how library and programs are built. Its functions run at the root.
+# What is built stands in build/, which rt leaves alone, each thing beside a sum of the contents that it was made from.
+
+# shellcheck source=tools/messages.sh
+. "${ROOT:-.}/tools/messages.sh"
 
 # The archive is for x86-64; on another machine the programs are built by a cross compiler, linked whole, and run by an emulator.
-# shellcheck disable=SC2034 # CXX and RUN are for the scripts that source this
 case $(uname -m) in
 x86_64 | amd64) CC=gcc CXX=g++ LINK='' RUN='' ;;
 *) CC=x86_64-linux-gnu-gcc CXX=x86_64-linux-gnu-g++ LINK=-static RUN=qemu-x86_64 ;;
 esac
 WARNINGS='-Wall -Wextra -Wpedantic -Wconversion -Wshadow -Werror'
-LIBRARY=target/staticlib/libtrestlepip.a
+BUILD=build
+LIBRARY=$BUILD/libtrestlepip.a
 LEVEL=-O2
 TRAPS=''
 
@@ -16,9 +20,33 @@ TRAPS=''
 # time, as rt chooses on two processors, leave one idle.
 export RT_JOBS="${RT_JOBS:-4}"
 
-stop() { # WORDS...
-    echo "${0##*/}: $*" >&2
+# The command that the messages are of: the one that was called, also where it calls another script.
+SAYS=${SAYS:-${0##*/}}
+export SAYS
+
+warn() { # FORMAT WORD...
+    format=$1
+    shift
+    # shellcheck disable=SC2059
+    printf "$SAYS: $format\n" "$@" >&2
+}
+
+stop() { # FORMAT WORD...
+    warn "$@"
     exit 1
+}
+
+# Runs a command in a session of its own, which ends whole if this script is ended.
+guarded() { # COMMAND WORD...
+    setsid "$@" &
+    child=$!
+    trap 'kill -s TERM -- "-$child" 2>/dev/null; exit 129' HUP
+    trap 'kill -s TERM -- "-$child" 2>/dev/null; exit 130' INT
+    trap 'kill -s TERM -- "-$child" 2>/dev/null; exit 143' TERM
+    ended=0
+    wait "$child" || ended=$?
+    trap - HUP INT TERM
+    return "$ended"
 }
 
 # The Debian packages that a command needs; a compiler is no use without its C library.
@@ -34,12 +62,11 @@ package_of() { # COMMAND
 
 # Installs Debian packages where that may be done without asking, and else says how.
 install_packages() { # PACKAGE...
-    how="missing: $*; install with: apt-get install $*"
-    command -v apt-get >/dev/null || stop "$how"
-    if [ "$(id -u)" -eq 0 ]; then as=''; elif sudo -n true 2>/dev/null; then as='sudo -n'; else stop "$how"; fi
-    echo "${0##*/}: installing $*" >&2
+    command -v apt-get >/dev/null || stop "$says_missing" "$*" "$*"
+    if [ "$(id -u)" -eq 0 ]; then as=''; elif sudo -n true 2>/dev/null; then as='sudo -n'; else stop "$says_missing" "$*" "$*"; fi
+    warn "$says_installing" "$*"
     $as apt-get -qq update >/dev/null || :
-    $as env DEBIAN_FRONTEND=noninteractive apt-get -qq -y install "$@" >/dev/null || stop "$how"
+    $as env DEBIAN_FRONTEND=noninteractive apt-get -qq -y install "$@" >/dev/null || stop "$says_missing" "$*" "$*"
 }
 
 # Sees to it that each of these commands is there.
@@ -47,12 +74,44 @@ need() { # COMMAND...
     missing=''
     for c; do
         command -v "$c" >/dev/null && continue
-        [ "$c" != rt ] || stop 'rt, the command of the Rattle toolchain, is not on the PATH'
+        [ "$c" != rt ] || stop "$says_no_rt"
         missing="$missing $(package_of "$c")"
     done
     # shellcheck disable=SC2086
     [ -z "$missing" ] || install_packages $missing
 }
+
+# The sum of the contents of these files and of all below these folders, with their names; wrong edits are no part of a crate.
+sum_of() { # FILE | FOLDER...
+    find "$@" -type f ! -path '*/must-fail/*' | LC_ALL=C sort | tr '\n' '\0' | xargs -0 sha256sum | sha256sum | cut -d' ' -f1
+}
+
+# Whether the file that is built was built with this sum.
+is_fresh() { # FILE SUM
+    [ -e "$1" ] && [ "$(cat "$1.sum" 2>/dev/null)" = "$2" ]
+}
+
+# Puts a built file in its place, in one step, so that a program that runs or starts meanwhile has the old one or the new one whole.
+put() { # NEW FILE SUM
+    rm -f "$2.sum"
+    mv "$1" "$2"
+    echo "$3" >"$2.sum"
+}
+
+# Sees to it that a folder is there and can be written.
+need_folder() { # FOLDER
+    mkdir -p "$1" 2>/dev/null || stop "$says_not_writable" "$1"
+    [ -w "$1" ] || stop "$says_not_writable" "$1"
+}
+
+# Goes on when no other script builds here, until unlock.
+lock() {
+    need_folder "$BUILD"
+    exec 9>"$BUILD/lock"
+    flock -n 9 || { warn "$says_waiting"; flock 9; }
+}
+
+unlock() { exec 9>&-; }
 
 # The crate whose log rt wrote last.
 rt_is_at() {
@@ -65,14 +124,15 @@ watch_rt() {
     began=$(date +%s) ticks=0
     while sleep 1 >/dev/null 2>&1 && kill -0 $$ 2>/dev/null; do
         ticks=$((ticks + 1))
-        line="proving $(rt_is_at), $(($(date +%s) - began)) s so far"
+        # shellcheck disable=SC2059
+        line=$(printf "$says_proving" "$(rt_is_at)" $(($(date +%s) - began)))
         if [ -t 2 ]; then printf '\r\033[K%s' "$line" >&2; elif [ $((ticks % 30)) -eq 1 ]; then echo "$line" >&2; fi
     done
 }
 
 # Shows on standard error what rt is at, until end_progress.
 show_progress() {
-    watch_rt &
+    watch_rt 9>&- &
     watcher=$!
 }
 
@@ -90,13 +150,33 @@ below() { # NAME
     done
 }
 
-# Removes the stamps that are older than a source of what they stand for: rt proves that anew, and a stamp is then the sign that it has.
+# The sum of a crate and of those that it stands on.
+crate_sum() { # NAME
+    # shellcheck disable=SC2046
+    sum_of crates.txt $(for one in "$1" $(below "$1"); do echo "crates/$one"; done)
+}
+
+# The first of the crates that a crate stands on of which rt has left no proof; the stamp comes last.
+unproved() { # NAME
+    for other in $(below "$1"); do
+        if [ -f "target/stamp/$other" ] && [ -d "target/rlib/$other.rlib" ]; then continue; fi
+        echo "$other"
+        return
+    done
+}
+
+# Removes the stamps of crates that have changed since the library was built: rt proves those anew, and a stamp is then the sign that it has.
 drop_old_stamps() {
     for stamp in target/stamp/*; do
         name=${stamp##*/}
-        # shellcheck disable=SC2046
-        [ -z "$(find crates.txt "crates/$name" $(below "$name" | sed 's,^,crates/,') -newer "$stamp" 2>/dev/null)" ] || rm "$stamp"
+        [ "$(cat "$BUILD/sums/$name" 2>/dev/null)" = "$(crate_sum "$name")" ] || rm -f "$stamp"
     done
+}
+
+# Keeps the sum of each crate that the library stands on, as it is proved now.
+keep_sums() {
+    mkdir -p "$BUILD/sums"
+    for name in $(below trestlepip); do crate_sum "$name" >"$BUILD/sums/$name"; done
 }
 
 # Proves the crates that the library stands on, several at a time, then the library, and writes its archive.
@@ -105,29 +185,63 @@ prove_library() {
     rt check $(sed -n 's/^trestlepip://p' crates.txt) && rt staticlib trestlepip
 }
 
-# Whether the library's archive is there, and newer than all sources.
-is_built() { [ -e "$LIBRARY" ] && [ -z "$(find crates crates.txt -newer "$LIBRARY")" ]; }
+# Whether the library's archive is that of the sources as they are.
+is_built() { is_fresh "$LIBRARY" "$(crate_sum trestlepip)"; }
 
-# The library, unless it is built. What rt says is kept, and shown if it refuses.
-build_library() {
-    ! is_built || return 0
-    mkdir -p target/c
-    status=0
+# Has the library proved. What rt says is kept, and shown if it refuses.
+make_library() {
+    need rt
+    sum=$(crate_sum trestlepip) status=0
     show_progress
-    prove_library >target/c/rt.out 2>&1 || status=$?
+    prove_library >"$BUILD/rt.out" 2>&1 || status=$?
     end_progress
-    [ "$status" -eq 0 ] || { cat target/c/rt.out >&2; stop 'rt refuses the library'; }
+    [ "$status" -eq 0 ] || { cat "$BUILD/rt.out" >&2; stop "$says_refused"; }
+    cp target/staticlib/libtrestlepip.a "$BUILD/new.a"
+    put "$BUILD/new.a" "$LIBRARY" "$sum"
+    keep_sums
 }
 
-# Compiles and links target/c/NAME from these sources and archives; LEVEL is how much the compiler optimises, TRAPS are options of the tests. The help
-# card's lines come to C by a header made here.
+# The library, unless it is built.
+build_library() {
+    ! is_built || return 0
+    lock
+    is_built || make_library
+    unlock
+}
+
+# What a program's sum is over, source by source: the whole folder, where its headers stand too; of what is itself built, the file alone.
+made_from() { # SOURCE...
+    for source; do
+        case $source in
+        "$LIBRARY") ;;
+        "$BUILD"/*) echo "$source" ;;
+        *) dirname "$source" ;;
+        esac
+    done | sort -u
+}
+
+# The sum of what a program is made from: its options, its sources, the library.
+program_sum() { # SOURCE...
+    {
+        echo "$CC $LEVEL $TRAPS $LINK $*"
+        # shellcheck disable=SC2046
+        sum_of include $(made_from "$@")
+        cat "$LIBRARY.sum"
+    } | sha256sum | cut -d' ' -f1
+}
+
+# Compiles and links a program from these sources and archives, unless it is built. LEVEL is how much the compiler optimises, TRAPS are options of the tests.
 build() { # NAME SOURCE...
-    program=target/c/$1
+    program=$BUILD/$1
     shift
-    mkdir -p target/c
-    awk -f host/help-card.awk docs/HELP-CARD.md >target/c/help_card.h
+    sum=$(program_sum "$@")
+    ! is_fresh "$program" "$sum" || return 0
+    need "$CC"
+    need_folder "${program%/*}"
     # shellcheck disable=SC2086
-    "$CC" -std=c11 "$LEVEL" $WARNINGS -Wstrict-prototypes -Wmissing-prototypes $TRAPS $LINK -Iinclude -Itarget/c -o "$program" "$@"
+    "$CC" -std=c11 "$LEVEL" $WARNINGS -Wstrict-prototypes -Wmissing-prototypes $TRAPS $LINK -Iinclude -I"$BUILD" -o "$program.$$" "$@" ||
+        stop "$says_not_compiled" "${program##*/}"
+    put "$program.$$" "$program" "$sum"
 }
 
 # What each program is made of, but for the library and the second program.
