@@ -28,7 +28,7 @@ pub type Tables = [u8; TABLE_ROOM];
 
 pub type Buffer = [u8; BUFFER_ROOM];
 
-// What the buffer is full of before a call: no cell and no reply byte is FF, so that every byte that a call writes differs.
+// What the buffer is full of before a call: no cell is FF, so that every byte of a copy differs from it.
 pub const UNWRITTEN: u8 = 0xFF;
 
 // How many bytes are lent of state, page, legends, tables and buffer.
