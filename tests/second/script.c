@@ -14,7 +14,7 @@
 /* What a call is lent: the stores, then a buffer for the reply or the copy. */
 enum { BUFFER = STORES, LENT };
 
-/* The usual size of each, and the byte that it is full of at first; the buffer is filled anew for every call. */
+/* The usual size of each, and the byte that it is full of at first. The buffer is filled anew for every call, with a byte that no cell is. */
 static const struct {
     const char *name;
     size_t size;
@@ -24,7 +24,7 @@ static const struct {
     [PAGE] = { "page", TRESTLEPIP_PAGE_BYTES, 5 },
     [LEGENDS] = { "legends", TRESTLEPIP_LEGEND_BYTES, 6 },
     [TABLES] = { "tables", TRESTLEPIP_TABLE_BYTES, 7 },
-    [BUFFER] = { "buffer", 15 * TRESTLEPIP_LINE_CELLS, 7 },
+    [BUFFER] = { "buffer", TRESTLEPIP_PAGE_BYTES, 0xFF },
 };
 
 /* A program, what its next call is lent, and the stores as they were before the latest call. */
@@ -109,7 +109,8 @@ static bool is_meant(char letter, size_t count)
     case 'R': return count == 0;
     case 'P': return count == 2;
     case 'G': return count == 3;
-    case 'L': return count == 2 * LENT;
+    case 'L': return count == 2 * STORES;
+    case 'B': return count == 2;
     case COMMAND: return count > 0;
     default: return false;
     }
@@ -198,11 +199,12 @@ static void tell_copy(FILE *to, const uint8_t *copy, size_t count, const uint8_t
 static void tell_buffer(FILE *to, const struct player *p, const struct line *l, uint64_t answer)
 {
     const uint8_t *b = p->lent[BUFFER];
-    tell_count(to, "| buffer", count_other(b, parts[BUFFER].filler, parts[BUFFER].size + 1));
+    size_t written = count_other(b, parts[BUFFER].filler, parts[BUFFER].size + 1);
+    tell_count(to, "| buffer", written);
     if (trestlepip_number(answer) != TRESTLEPIP_ACCEPTED)
         return;
     if (l->letter == 'C')
-        tell_copy(to, b, p->lent_len[BUFFER], p->lent[PAGE]);
+        tell_copy(to, b, written, p->lent[PAGE]);
     if (l->letter == COMMAND && l->given[0] == 0x04)
         fprintf(to, " reply %02X %02X %02X %02X .. %02X %02X", b[0], b[1], b[2], b[3], b[22], b[23]);
 }
@@ -258,13 +260,20 @@ static bool put(struct player *p, enum store i, size_t at, uint8_t value)
     return true;
 }
 
-/* The sizes that the next call is lent; false if there is no room for one of them. */
-static bool resize(struct player *p, const struct line *l)
+/* How much of a store or the buffer the next call is lent; false if there is no room for it. */
+static bool resize(struct player *p, unsigned i, size_t size)
+{
+    p->lent_len[i] = size;
+    return size <= parts[i].size + 1;
+}
+
+/* The same for each store by its two bytes, of which 00 00 is the usual size. */
+static bool resize_stores(struct player *p, const uint8_t *sizes)
 {
     bool room = true;
-    for (unsigned i = 0; i < LENT; i++) {
-        p->lent_len[i] = double_of(l->given + 2 * i);
-        room = room && p->lent_len[i] <= parts[i].size + 1;
+    for (enum store i = STATE; i <= TABLES; i++) {
+        size_t size = double_of(sizes + 2 * i);
+        room = resize(p, i, size != 0 ? size : parts[i].size) && room;
     }
     return room;
 }
@@ -280,7 +289,8 @@ static bool obey_line(struct player *p, const char *text, size_t length, FILE *t
     case COMMENT: return true;
     case 'P': return put(p, STATE, l.given[0], l.given[1]);
     case 'G': return put(p, LEGENDS, double_of(l.given), l.given[2]);
-    case 'L': return resize(p, &l);
+    case 'L': return resize_stores(p, l.given);
+    case 'B': return resize(p, BUFFER, double_of(l.given));
     default: obey_call(p, &l, to); return true;
     }
 }

@@ -106,7 +106,7 @@ fn lend(
     )
 }
 
-// A call, and its figures. The buffer is lent with 07 in every byte.
+// A call, and its figures.
 fn tell(
     letter: u8,
     given: &Given,
@@ -121,7 +121,7 @@ fn tell(
     let was_page = *page;
     let was_legends = *legends;
     let was_tables = *tables;
-    let mut buffer = [7u8; stores::BUFFER_ROOM];
+    let mut buffer = [stores::UNWRITTEN; stores::BUFFER_ROOM];
     let answer = lend(
         letter,
         given,
@@ -145,7 +145,7 @@ fn tell(
         tables,
         &was_tables,
     );
-    stores::written(answer, letter, given[0], lent[4], &buffer, page);
+    stores::written(answer, letter, given[0], &buffer, page);
 }
 
 // One line of the script, and whether it could be read.
@@ -169,6 +169,7 @@ pub fn obey(
         b'P' => stores::poke(state, seq::wide(given[0]), given[1]),
         b'G' => stores::poke(legends, double(&given, 0), given[2]),
         b'L' => stores::resize(&given, lent),
+        b'B' => stores::resize_buffer(&given, lent),
         _ => {
             tell(letter, &given, n, lent, state, page, legends, tables);
             *lent = stores::USUAL;

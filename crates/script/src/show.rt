@@ -29,15 +29,19 @@ pub fn byte(name: &[u8], b: u8) {
 }
 
 // In how many places the two differ, as far as the shorter one goes.
-pub fn differ(name: &[u8], a: &[u8], b: &[u8]) {
+pub fn unlike(a: &[u8], b: &[u8]) -> usize {
     let end = seq::least(a.len(), b.len());
-    let mut n: u64 = 0;
+    let mut n = 0;
     let mut i = 0;
     while i < end {
-        n += seq::flag(a[i] != b[i], 1) as u64;
+        n += seq::wide(seq::flag(a[i] != b[i], 1));
         i += 1;
     }
-    figure(name, n);
+    n
+}
+
+pub fn differ(name: &[u8], a: &[u8], b: &[u8]) {
+    figure(name, unlike(a, b) as u64);
 }
 
 // The fields of a packed answer.

@@ -7,10 +7,7 @@ use printer::Printer;
 ghost use Prim.Native.Nat.{_<_, _≤_};
 ghost use Rattle.numbers.specs.Sizes.{legendSize};
 
-// A copy on the form that the script starts with: 15 lines.
-const COPY_BYTES: usize = 15 * Stores::LINE_BYTES;
-
-// Each store has room for one byte more than it is to have, and the buffer for one more than a copy, so that too much can be lent.
+// Each store has room for one byte more than it is to have, and the buffer for one more than a page, so that too much can be lent.
 pub const STATE_ROOM: usize = Printer::STATE_BYTES + 1;
 
 pub const PAGE_ROOM: usize = Stores::PAGE_BYTES + 1;
@@ -19,7 +16,7 @@ pub const LEGEND_ROOM: usize = Stores::LEGEND_BYTES + 1;
 
 pub const TABLE_ROOM: usize = Stores::TABLE_BYTES + 1;
 
-pub const BUFFER_ROOM: usize = COPY_BYTES + 1;
+pub const BUFFER_ROOM: usize = Stores::PAGE_BYTES + 1;
 
 pub type State = [u8; STATE_ROOM];
 
@@ -31,6 +28,9 @@ pub type Tables = [u8; TABLE_ROOM];
 
 pub type Buffer = [u8; BUFFER_ROOM];
 
+// What the buffer is full of before a call: no cell is FF, so that every byte of a copy differs from it.
+pub const UNWRITTEN: u8 = 0xFF;
+
 // How many bytes are lent of state, page, legends, tables and buffer.
 pub type Lent = [usize; 5];
 
@@ -39,7 +39,7 @@ pub const USUAL: Lent = [
     Stores::PAGE_BYTES,
     Stores::LEGEND_BYTES,
     Stores::TABLE_BYTES,
-    COPY_BYTES,
+    Stores::PAGE_BYTES,
 ];
 
 // A number of two bytes, the first of them at this place of a line's.
@@ -96,18 +96,19 @@ pub fn changed(
 
 // What the call wrote into the buffer. Of an accepted copy: the first line's first and last cell, how many bytes are not 00, and how many are not the
 // page's. Of an accepted Sense: bytes 0 to 3, 22 and 23.
-pub fn written(answer: u64, letter: u8, code: u8, end: usize, buffer: &Buffer, page: &Page) {
-    show::differ(b" | buffer", buffer, &[7; BUFFER_ROOM]);
+pub fn written(answer: u64, letter: u8, code: u8, buffer: &Buffer, page: &Page) {
+    let n = show::unlike(buffer, &[UNWRITTEN; BUFFER_ROOM]);
+    show::figure(b" | buffer", n as u64);
     if answer % 0x100 != 0 {
         return;
     }
     if letter == b'C' {
-        let out = seq::front(buffer, end);
+        let copy = seq::front(buffer, n);
         show::byte(b" cell 1", buffer[0]);
         show::count(b" cell", Stores::LINE_CELLS as u64);
         show::byte(b"", buffer[Stores::LINE_BYTES - 1]);
-        show::differ(b" filled", out, &[0; BUFFER_ROOM]);
-        show::differ(b" unlike", out, page);
+        show::differ(b" filled", copy, &[0; BUFFER_ROOM]);
+        show::differ(b" unlike", copy, page);
     }
     if (letter == COMMAND) & (code == 0x04) {
         show::byte(b" reply", buffer[0]);
@@ -127,16 +128,31 @@ pub fn poke(s: &mut [u8], at: usize, value: u8) -> bool {
     false
 }
 
-// The sizes that the next call is lent, and whether there is room for them.
+// One of the stores' sizes that a line gives, of which 00 00 is the usual one.
+fn size(given: &Given, which: usize) -> usize
+    requires { ⌜ which < 4 ⌝ }
+{
+    let n = double(given, which * 2);
+    if n == 0 {
+        return USUAL[which];
+    }
+    n
+}
+
+// How much of the stores the next call is lent, and whether there is room for it.
 pub fn resize(given: &Given, lent: &mut Lent) -> bool {
-    lent[0] = double(given, 0);
-    lent[1] = double(given, 2);
-    lent[2] = double(given, 4);
-    lent[3] = double(given, 6);
-    lent[4] = double(given, 8);
+    lent[0] = size(given, 0);
+    lent[1] = size(given, 1);
+    lent[2] = size(given, 2);
+    lent[3] = size(given, 3);
     (lent[0] <= STATE_ROOM)
         & (lent[1] <= PAGE_ROOM)
         & (lent[2] <= LEGEND_ROOM)
         & (lent[3] <= TABLE_ROOM)
-        & (lent[4] <= BUFFER_ROOM)
+}
+
+// The same for the buffer.
+pub fn resize_buffer(given: &Given, lent: &mut Lent) -> bool {
+    lent[4] = double(given, 0);
+    lent[4] <= BUFFER_ROOM
 }

@@ -2,17 +2,17 @@
 use Prim.Native.Nat.{_≤_, _-_}
 use lib.ListN.{length}
 use borrow.Author.Needs.{needs}
-use Rattle.script.proofs.show.differ.Statement.{statement}
-use Rattle.script.proofs.show.differ.Tie as tie
+use Rattle.script.proofs.show.unlike.Statement.{statement}
+use Rattle.script.proofs.show.unlike.Tie as tie
 
 abbrev Inv-loop : tie.InvT-loop
-Inv-loop name a b end n₀ i₀ n i = (n ≤ i) × ((i ≤ end) × ((end ≤ length a) × (end ≤ length b)))
+Inv-loop a b end n₀ i₀ n i = (n ≤ i) × ((i ≤ end) × ((end ≤ length a) × (end ≤ length b)))
 
 abbrev μ-loop : tie.MeasureT-loop
-μ-loop name a b end n₀ i₀ n i = end - i
+μ-loop a b end n₀ i₀ n i = end - i
 
-pub differ-spec : {M : Type 1} → statement M
-differ-spec =
+pub unlike-spec : {M : Type 1} → statement M
+unlike-spec =
     tie.close
     (tie.spec
     Inv-loop
@@ -27,5 +27,4 @@ differ-spec =
     (λ c. search needs)
     (λ c. search needs)
     (λ c. search needs)
-    (λ c κs. search needs)
     (λ c. search needs))
