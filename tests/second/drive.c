@@ -10,7 +10,7 @@
 
 static void usage(void)
 {
-    fprintf(stderr, "drive: usage: drive [--calls N] [--seed S] [--lists L] [--guard]; L is not 0 and not above N\n"
+    fprintf(stderr, "drive: usage: drive [--calls N] [--seed S] [--lists L] [--guard] [--meet-all]; L is not above N\n"
             "              drive --script FILE --expect FILE\n");
     exit(2);
 }
@@ -26,24 +26,42 @@ static unsigned long long number_argument(const char *text)
     return value;
 }
 
+/* A number of calls, lists or pairs. */
+static unsigned long long count_argument(const char *text)
+{
+    unsigned long long value = number_argument(text);
+    if (value == 0)
+        usage();
+    return value;
+}
+
 static struct options read_options(char **argument)
 {
-    struct options o = { .calls = 200000, .lists = 200, .seed = 3800 };
+    struct options o = { .calls = 200000, .seed = 3800 };
     for (; *argument != NULL; argument++) {
         if (strcmp(*argument, "--guard") == 0)
             o.guard_all = true;
+        else if (strcmp(*argument, "--meet-all") == 0)
+            o.meet_all = true;
         else if (strcmp(*argument, "--calls") == 0)
-            o.calls = number_argument(*++argument);
+            o.calls = count_argument(*++argument);
         else if (strcmp(*argument, "--lists") == 0)
-            o.lists = number_argument(*++argument);
+            o.lists = count_argument(*++argument);
         else if (strcmp(*argument, "--seed") == 0)
             o.seed = number_argument(*++argument);
         else
             usage();
     }
-    if (o.lists == 0 || o.lists > o.calls)
+    o.lists = o.lists == 0 ? usual_lists(o.calls) : o.lists;
+    if (o.lists > o.calls)
         usage();
     return o;
+}
+
+/* Prints what is made, or has been. */
+static void print_made(unsigned long long calls, const struct options *o, const char *also)
+{
+    printf("%llu call%s in %llu list%s, seed %llu%s\n", calls, calls == 1 ? "" : "s", o->lists, o->lists == 1 ? "" : "s", o->seed, also);
 }
 
 /* Lists of calls, and the table of what they met; whether all is as it must be. */
@@ -51,16 +69,15 @@ static bool lists_hold(struct options options)
 {
     static struct run r;
     r.options = options;
-    printf("%llu calls, %llu lists, seed %llu, guard pages for %s\n", r.options.calls, r.options.lists, r.options.seed,
-            r.options.guard_all ? "all lists" : "two lists of each four");
+    print_made(r.options.calls, &r.options, r.options.guard_all ? ", guard pages for all lists" : ", guard pages for two lists of each four");
     fflush(stdout);
     make_buffers(&r);
     catch_faults();
     if (!run_lists(&r))
         return false;
-    unsigned missing = counts_print(&r.counts);
-    printf("%llu calls in %llu lists, seed %llu: 0 differences\n", r.calls_made, r.options.lists, r.options.seed);
-    return missing == 0;
+    struct faults f = counts_print(&r.counts);
+    print_made(r.calls_made, &r.options, ": 0 differences");
+    return f.forbidden == 0 && (f.missing == 0 || !r.options.meet_all);
 }
 
 static bool asks_for_script(int count, char **arguments)

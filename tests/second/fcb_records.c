@@ -3,11 +3,11 @@
 
 #include <string.h>
 
-/* The lines of an FCB, in half inches of 6, 8 or 12 lines per inch; gives the count of bytes. */
-static size_t fcb_lines(struct generator *g, unsigned form, unsigned percent_change, uint8_t *fcb)
+static const uint8_t upper[] = { 0x00, 0x10, 0x30 };
+
+/* The lines of an FCB, in half inches of 6, 8 or 12 lines per inch, from this spacing on; gives the count of bytes. */
+static size_t fcb_lines(struct generator *g, unsigned form, uint8_t spacing, unsigned percent_change, uint8_t *fcb)
 {
-    static const uint8_t upper[] = { 0x00, 0x10, 0x30 };
-    uint8_t spacing = upper[below(g, 3)];
     size_t count = 0;
     for (unsigned half = 0; half < form / 12 && half < 24; half++) {
         spacing = percent(g, percent_change) ? upper[below(g, 3)] : spacing;
@@ -26,15 +26,34 @@ static void fcb_channels(struct generator *g, unsigned percent_set, unsigned onl
             fcb[i] = (uint8_t)((fcb[i] & 0xF0) + (only != 0 ? only : between(g, 1, 12)));
 }
 
+/* The lines of an FCB; on a calm printer often as many as there can be. */
+static size_t fcb_some_lines(struct generator *g, unsigned form, uint8_t *fcb)
+{
+    static const unsigned change[] = { 0, 10, 50 };
+    unsigned percent_change = change[below(g, COUNT(change))];
+    if (g->calm && percent(g, 50))
+        return fcb_lines(g, form, 0x30, 0, fcb);
+    return fcb_lines(g, form, upper[below(g, COUNT(upper))], percent_change, fcb);
+}
+
+/* A channel on the last printable line, so that skips stop there. */
+static void fcb_last_line(struct generator *g, uint8_t *fcb, size_t count)
+{
+    uint8_t *last = fcb + count - 12 / units(fcb[count - 1]) - 1;
+    *last = (uint8_t)((*last & 0xF0) + between(g, 2, 12));
+}
+
 /* An FCB that the load takes, for a form of at least half an inch. */
 static size_t fcb_taken(struct generator *g, unsigned form, uint8_t *fcb)
 {
-    static const unsigned change[] = { 0, 10, 50 }, set[] = { 0, 5, 20, 60, 100 }, only[] = { 0, 0, 0, 0, 9, 12 };
-    size_t count = fcb_lines(g, form, change[below(g, COUNT(change))], fcb);
+    static const unsigned set[] = { 0, 5, 20, 60, 100 }, only[] = { 0, 0, 0, 0, 9, 12 };
+    size_t count = fcb_some_lines(g, form, fcb);
     unsigned percent_set = set[below(g, COUNT(set))];
     fcb_channels(g, percent_set, only[below(g, COUNT(only))], fcb, count);
     if (percent(g, 60) && count > 12)
         fcb[12 / units(fcb[0])] = (uint8_t)((fcb[12 / units(fcb[0])] & 0xF0) + 1);
+    if (g->calm && percent(g, 60))
+        fcb_last_line(g, fcb, count);
     return count;
 }
 

@@ -56,11 +56,25 @@ unsigned channel_near(struct generator *g)
     return between(g, 1, 12);
 }
 
+static bool is_loaded(const struct generator *g, unsigned slot)
+{
+    return state_of(g)[TRESTLEPIP_AT_LOADED + slot] == 1;
+}
+
 /* A slot that is loaded, mostly one of the higher. */
 unsigned slot_near(struct generator *g)
 {
     unsigned slot = below(g, TRESTLEPIP_SLOTS);
-    while (slot > 0 && state_of(g)[TRESTLEPIP_AT_LOADED + slot] != 1)
+    while (slot > 0 && !is_loaded(g, slot))
         slot--;
     return slot;
+}
+
+/* A slot that is not loaded: the selected one if it is not, else the lowest; the selected one if all are loaded. */
+unsigned slot_to_load(const struct generator *g)
+{
+    unsigned selected = state_of(g)[TRESTLEPIP_AT_SELECTED] % TRESTLEPIP_SLOTS, slot = 0;
+    while (slot < TRESTLEPIP_SLOTS && is_loaded(g, slot))
+        slot++;
+    return slot == TRESTLEPIP_SLOTS || !is_loaded(g, selected) ? selected : slot;
 }

@@ -56,6 +56,9 @@ unsigned channel_near(struct generator *g);
 /* A slot that is loaded, mostly one of the higher. */
 unsigned slot_near(struct generator *g);
 
+/* A slot that is not loaded: the selected one if it is not, else the lowest; the selected one if all are loaded. */
+unsigned slot_to_load(const struct generator *g);
+
 /* The text of a write or of a segment; count is not 0. */
 void text(struct generator *g, uint8_t *bytes, size_t count);
 

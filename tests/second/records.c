@@ -160,10 +160,10 @@ static void sequence_fault(struct generator *g, struct call *c)
     }
 }
 
-/* The total of an overlay sequence: seldom many copies, since composing all of them takes long. */
+/* The total of an overlay sequence: seldom many copies, since composing all of them takes long; a calm list is long enough for them. */
 static unsigned copies_total(struct generator *g)
 {
-    switch (WEIGHTED(g, 60, 25, 10, 5)) {
+    switch (g->calm ? WEIGHTED(g, 50, 20, 5, 25) : WEIGHTED(g, 60, 25, 10, 5)) {
     case 0: return between(g, 1, 4);
     case 1: return between(g, 2, 30);
     case 2: return between(g, 30, 254);
@@ -189,7 +189,7 @@ void sequence_record(struct generator *g, struct call *c)
 /* The record of a copy number load. */
 void number_record(struct generator *g, struct call *c)
 {
-    c->record[0] = (uint8_t)(percent(g, 30) ? 255 : percent(g, 40) ? between(g, 1, 3) : between(g, 1, 255));
+    c->record[0] = (uint8_t)(percent(g, g->calm ? 50 : 30) ? 255 : percent(g, 40) ? between(g, 1, 3) : between(g, 1, 255));
     c->record[1] = byte(g);
     switch (WEIGHTED(g, 75, 9, 8, 6, 2)) {
     case 0: c->record_len = 1; break;

@@ -5,6 +5,7 @@
 
 #include "../../include/trestlepip.h"
 #include "compare.h"
+#include "making.h"
 #include "programs.h"
 #include "report.h"
 
@@ -12,6 +13,33 @@
 #include <string.h>
 #include <time.h>
 #include <unistd.h>
+
+/* The first list of each four is calm, and four times as long as another, so that it comes to a hundred pages and more. */
+enum { LISTS_OF_FOUR = 4, SHARES_CALM = 4, CALLS_OF_FOUR = 7000 };
+
+unsigned long long usual_lists(unsigned long long calls)
+{
+    unsigned long long lists = calls * LISTS_OF_FOUR / CALLS_OF_FOUR;
+    return lists == 0 ? 1 : lists;
+}
+
+/* Which four a list is of, from 0. */
+static unsigned long long four_of(unsigned long long list)
+{
+    return (list - 1) / LISTS_OF_FOUR;
+}
+
+static bool is_calm(unsigned long long list)
+{
+    return list % LISTS_OF_FOUR == 1;
+}
+
+/* The shares of the first lists together. */
+static unsigned long long shares_of_first(unsigned long long lists)
+{
+    unsigned long long calm = (lists + LISTS_OF_FOUR - 1) / LISTS_OF_FOUR;
+    return lists + calm * (SHARES_CALM - 1);
+}
 
 void make_buffers(struct run *r)
 {
@@ -115,9 +143,10 @@ static bool run_call(struct run *r)
 /* The stores before a list's first Start: zeros or any bytes, alike for both. */
 static void lay_stores(struct run *r)
 {
+    bool any = percent(&r->generator, 50);
     for (enum store i = STATE; i <= TABLES; i++) {
         memset(r->before[i], 0, store_size[i]);
-        if (r->list % 2 == 0)
+        if (any)
             generator_fill(&r->generator, r->before[i], store_size[i]);
         memcpy(store(r->library, i), r->before[i], store_size[i]);
         memcpy(store(&r->second, i), r->before[i], store_size[i]);
@@ -131,28 +160,41 @@ static void lay_buffers(const struct set *s)
         memset(s->part[i].end - s->part[i].room, 0, s->part[i].room);
 }
 
-/* One list; guard pages serve all lists or two of each four. */
+/* Whether guard pages serve a list: two lists of each four, and every other calm one. */
+static bool is_guarded(const struct run *r)
+{
+    return r->options.guard_all || (four_of(r->list) + r->list) % 2 == 0;
+}
+
+/* One list. */
 static bool run_list(struct run *r, unsigned long long calls)
 {
-    r->library = r->options.guard_all || r->list % 4 < 2 ? &r->guarded : &r->plain;
+    r->library = is_guarded(r) ? &r->guarded : &r->plain;
     const struct set *s = &r->second;
     const uint8_t *const looked_at[STORES] = { store(s, STATE), store(s, PAGE), store(s, LEGENDS), store(s, TABLES) };
-    generator_begin(&r->generator, r->options.seed, r->list, looked_at);
+    generator_begin(&r->generator, r->options.seed, r->list, is_calm(r->list), looked_at);
     lay_stores(r);
     lay_buffers(r->library);
     lay_buffers(&r->second);
     for (r->call_in_list = 1; r->call_in_list <= calls; r->call_in_list++)
         if (!run_call(r))
             return false;
+    counts_end_list(&r->counts);
     return true;
 }
 
-/* All lists; the calls are shared among them as evenly as they can be. */
+/* How many of the calls the first lists have: one each, and a share of the rest that is larger for calm lists. */
+static unsigned long long calls_of_first(const struct options *o, unsigned long long lists)
+{
+    return lists + (o->calls - o->lists) * shares_of_first(lists) / shares_of_first(o->lists);
+}
+
+/* All lists; they have all calls together. */
 bool run_lists(struct run *r)
 {
     const struct options *o = &r->options;
     for (r->list = 1; r->list <= o->lists; r->list++)
-        if (!run_list(r, o->calls / o->lists + (r->list <= o->calls % o->lists ? 1 : 0)))
+        if (!run_list(r, calls_of_first(o, r->list) - calls_of_first(o, r->list - 1)))
             return false;
     return true;
 }
