@@ -15,12 +15,11 @@
 #include <unistd.h>
 
 /* The first list of each four is calm, and four times as long as another, so that it comes to a hundred pages and more. */
-enum { LISTS_OF_FOUR = 4, SHARES_CALM = 4, CALLS_OF_FOUR = 7000 };
+enum { LISTS_OF_FOUR = 4, SHARES_CALM = 4, CALLS_ON_AVERAGE = 1750 };
 
 unsigned long long usual_lists(unsigned long long calls)
 {
-    unsigned long long lists = calls * LISTS_OF_FOUR / CALLS_OF_FOUR;
-    return lists == 0 ? 1 : lists;
+    return calls < CALLS_ON_AVERAGE ? 1 : calls / CALLS_ON_AVERAGE;
 }
 
 /* Which four a list is of, from 0. */
@@ -68,15 +67,6 @@ static void apply_changes(struct run *r)
     }
 }
 
-/* The record and the old bytes of reply and output, which differ from call to call so that a write left out is seen. */
-static void lay_out(const struct set *s, const struct call *c, unsigned old)
-{
-    memcpy(last_bytes(s, RECORD, c->record_len), c->record, c->record_len);
-    memset(last_bytes(s, REPLY, REPLY_ROOM), (int)(old & 0xFF), REPLY_ROOM);
-    if (c->kind == CALL_COMPOSE)
-        memset(last_bytes(s, OUT, OUT_ROOM), (int)(old & 0xFF), OUT_ROOM);
-}
-
 /* The stores as they are now become those before the next call. */
 static void remember(struct run *r)
 {
@@ -112,7 +102,7 @@ static bool agree(const struct run *r)
     if (same_answer && !buffers)
         return true;
     print_place(r);
-    print_answers(r->library_answer, r->second_answer);
+    print_answers("library", r->library_answer, "second", r->second_answer);
     if (buffers)
         print_difference(&d);
     return false;
@@ -183,10 +173,11 @@ static bool run_list(struct run *r, unsigned long long calls)
     return true;
 }
 
-/* How many of the calls the first lists have: one each, and a share of the rest that is larger for calm lists. */
+/* How many of the calls the first lists have: one each, and their shares of the rest; no product is beyond the number's range. */
 static unsigned long long calls_of_first(const struct options *o, unsigned long long lists)
 {
-    return lists + (o->calls - o->lists) * shares_of_first(lists) / shares_of_first(o->lists);
+    unsigned long long rest = o->calls - o->lists, first = shares_of_first(lists), all = shares_of_first(o->lists);
+    return lists + rest / all * first + rest % all * first / all;
 }
 
 /* All lists; they have all calls together. */
