@@ -7,7 +7,7 @@
 
 enum { AFTER_SENSE = TRESTLEPIP_AT_SENSE_23 + 1 };
 
-static const char *const part_name[PARTS] = { "state", "page", "legends", "tables", "record", "reply", "output" };
+const char *const part_name[PARTS] = { "state", "page", "legends", "tables", "record", "reply", "output" };
 
 /* The first byte in which two stretches differ; they do. */
 size_t first_difference(const uint8_t *a, const uint8_t *b)

@@ -12,6 +12,9 @@ struct difference {
     unsigned library, expected;
 };
 
+/* The names of the lent buffers. */
+extern const char *const part_name[PARTS];
+
 /* The first byte in which two stretches differ; they do. */
 size_t first_difference(const uint8_t *a, const uint8_t *b);
 

@@ -33,8 +33,9 @@ static void cause_rows(struct table *t, const struct counts *n)
 /* What accepted commands reported, or Block hid. */
 static void report_rows(struct table *t, const struct counts *n)
 {
-    TABLE_ADD_ROWS(t, { "data check 80: unprintable", n->data_check[UNPRINTABLE], 1 }, { "data check 20: table not loaded", n->data_check[NO_TABLE], 1 },
-            { "data check 10: no channel match", n->data_check[NO_MATCH], 1 }, { "data check 08: multiple characters", n->data_check[MULTIPLE], 1 },
+    TABLE_ADD_ROWS(t, { "data check 80: unprintable", n->data_check[UNPRINTABLE], 1 },
+            { "data check 20: table not loaded", n->data_check[NO_TABLE], 1 }, { "data check 10: no channel match", n->data_check[NO_MATCH], 1 },
+            { "data check 08: multiple characters", n->data_check[MULTIPLE], 1 },
             { "data check 80 hidden by Block", n->hidden_unprintable, 1 }, { "data check 08 hidden by Block", n->hidden_multiple, 1 },
             { "unit exception (channel 12)", n->unit_exception, 1 }, { "channel 9", n->channel_9, 1 });
 }
@@ -103,7 +104,8 @@ static void damage_rows(struct table *t, const struct counts *n)
 /* What undisturbed lists met; those alone show that nothing a printer does leaves contents that get 9. */
 static void list_rows(struct table *t, const struct counts *n)
 {
-    TABLE_ADD_ROWS(t, { "undisturbed list of 1,000 calls or more", n->lists_long, 10 }, { "such a list with 100 released pages or more", n->lists_of_pages, 10 },
+    TABLE_ADD_ROWS(t, { "undisturbed list of 1,000 calls or more", n->lists_long, 10 },
+            { "such a list with 100 released pages or more", n->lists_of_pages, 10 },
             { "reset at once in an undisturbed list", n->undisturbed.resets_at_once, 20 },
             { "deferred reset done in an undisturbed list", n->undisturbed.resets_deferred, 20 },
             { "number 9 in an undisturbed list", n->undisturbed.nines, NEVER }, { "undisturbed run of calls", n->runs, 1 },

@@ -1,5 +1,6 @@
-/* The driver: runs lists of calls, or a script, on the library and on the second program, and compares what they give. */
+/* The driver: runs lists of calls, or a script, on the library and on the second program, and compares what they give; or demand 3 on pairs. */
 #include "counts.h"
+#include "demand3.h"
 #include "programs.h"
 #include "run.h"
 #include "script.h"
@@ -8,9 +9,13 @@
 #include <stdlib.h>
 #include <string.h>
 
+/* The seed where none is given. */
+enum { SEED = 3800 };
+
 static void usage(void)
 {
     fprintf(stderr, "drive: usage: drive [--calls N] [--seed S] [--lists L] [--guard] [--meet-all]; L is not above N\n"
+            "              drive --demand-3 N [--seed S]\n"
             "              drive --script FILE --expect FILE\n");
     exit(2);
 }
@@ -37,7 +42,7 @@ static unsigned long long count_argument(const char *text)
 
 static struct options read_options(char **argument)
 {
-    struct options o = { .calls = 200000, .seed = 3800 };
+    struct options o = { .calls = 200000, .seed = SEED };
     for (; *argument != NULL; argument++) {
         if (strcmp(*argument, "--guard") == 0)
             o.guard_all = true;
@@ -80,14 +85,33 @@ static bool lists_hold(struct options options)
     return f.forbidden == 0 && (f.missing == 0 || !r.options.meet_all);
 }
 
+/* Pairs of printers, with no other option than the seed. */
+static bool demand_3_argument(char **argument)
+{
+    unsigned long long pairs = count_argument(argument[0]);
+    if (argument[1] == NULL)
+        return demand_3_holds(pairs, SEED);
+    if (strcmp(argument[1], "--seed") != 0 || argument[2] == NULL || argument[3] != NULL)
+        usage();
+    return demand_3_holds(pairs, number_argument(argument[2]));
+}
+
 static bool asks_for_script(int count, char **arguments)
 {
     return count == 5 && strcmp(arguments[1], "--script") == 0 && strcmp(arguments[3], "--expect") == 0;
 }
 
+/* What the command line asks for, and whether it holds. */
+static bool all_holds(int count, char **arguments)
+{
+    if (asks_for_script(count, arguments))
+        return script_holds(arguments[2], arguments[4]);
+    if (count > 1 && strcmp(arguments[1], "--demand-3") == 0)
+        return demand_3_argument(arguments + 2);
+    return lists_hold(read_options(arguments + (count > 0 ? 1 : 0)));
+}
+
 int main(int count, char **arguments)
 {
-    bool holds = asks_for_script(count, arguments) ? script_holds(arguments[2], arguments[4])
-                                                   : lists_hold(read_options(arguments + (count > 0 ? 1 : 0)));
-    return holds ? 0 : 1;
+    return all_holds(count, arguments) ? 0 : 1;
 }

@@ -1,5 +1,5 @@
-/* What the parts of the generator share: chance.c has its random numbers, look.c looks at the state, records.c, fcb_records.c and legend_records.c make
- * records, damage.c damages stores. */
+/* What the parts of the generator share: chance.c has its random numbers, look.c looks at the state, records.c, fcb_records.c and
+ * legend_records.c make records, damage.c damages stores. */
 #ifndef MAKING_H
 #define MAKING_H
 
