@@ -89,8 +89,8 @@ static void any_command(struct generator *g, struct call *c)
     any_record(g, c, ignored_length(g));
 }
 
-/* Whether the printer is being set up for a job, by loads in a row; only a calm one is. */
-static bool is_set_up(struct generator *g)
+/* A calm printer is now and then set up for a job, by loads in a row; gives whether this call is to be one of them. */
+static bool tend_set_up(struct generator *g)
 {
     if (!g->calm || started_now(g) || state_of(g)[TRESTLEPIP_AT_WAITING] == 1)
         return false;
@@ -105,7 +105,7 @@ static void command(struct generator *g, struct call *c)
 {
     c->kind = CALL_COMMAND;
     c->buffer_len = percent(g, 50) ? 0 : below(g, REPLY_ROOM + 1);
-    if (is_set_up(g)) {
+    if (tend_set_up(g)) {
         load_command(g, c);
         return;
     }
@@ -258,7 +258,7 @@ static void clean(struct generator *g, struct call *c)
     memset(c->damaged, 0, sizeof c->damaged);
 }
 
-/* Whether it is time for a Start: at first, and unless the list is calm after a state is lost, and now and then. */
+/* Whether it is time for a Start: at first; if the list is not calm, also after a state is lost, and now and then. */
 static bool start_due(struct generator *g, unsigned answered)
 {
     if (g->made == 1 || g->calm)

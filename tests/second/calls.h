@@ -48,7 +48,7 @@ struct call {
     bool damaged[STORES];
 };
 
-/* What the generator keeps from call to call. A calm one makes no Start but the first, and damages nothing. */
+/* What the generator keeps from call to call. A calm one makes no Start except the first, and damages nothing. */
 struct generator {
     uint64_t word[4];
     bool calm;
