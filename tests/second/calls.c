@@ -7,6 +7,9 @@ const size_t store_size[STORES] = { TRESTLEPIP_STATE_BYTES, TRESTLEPIP_PAGE_BYTE
 
 const unsigned forms[FORMS] = { 72, 84, 96, 132, 144, 168, 192, 204, 240, 264, 288 };
 
+/* At 12 lines per inch this form has 132 printable lines, and no other has so many. */
+enum { FORM_LONGEST = 288 };
+
 /* ---- commands ---- */
 
 /* A write: no space for overprints, spaces, or a skip. */
@@ -29,12 +32,21 @@ static void move_command(struct generator *g, struct call *c)
     any_record(g, c, ignored_length(g));
 }
 
+/* A translate load; a calm printer is mostly told first to select a slot that is not loaded, so that in time all four are. */
+static void table_command(struct generator *g, struct call *c)
+{
+    unsigned slot = slot_to_load(g);
+    bool selects = g->calm && slot != state_of(g)[TRESTLEPIP_AT_SELECTED] && percent(g, 80);
+    c->command = selects ? (uint8_t)(0x47 + 0x10 * slot) : 0x83;
+    table_record(g, c);
+}
+
 /* One of the five loads. */
 static void load_command(struct generator *g, struct call *c)
 {
-    switch (WEIGHTED(g, 25, 20, 18, 12, 25)) {
+    switch (g->calm ? WEIGHTED(g, 15, 45, 15, 10, 15) : WEIGHTED(g, 25, 20, 18, 12, 25)) {
     case 0: c->command = 0x63; fcb_record(g, c); break;
-    case 1: c->command = 0x83; table_record(g, c); break;
+    case 1: table_command(g, c); break;
     case 2: c->command = 0x43; sequence_record(g, c); break;
     case 3: c->command = 0x23; number_record(g, c); break;
     default: c->command = 0x35; legends_record(g, c); break;
@@ -77,11 +89,26 @@ static void any_command(struct generator *g, struct call *c)
     any_record(g, c, ignored_length(g));
 }
 
+/* A calm printer is now and then set up for a job, by loads in a row; gives whether this call is to be one of them. */
+static bool tend_set_up(struct generator *g)
+{
+    if (!g->calm || started_now(g) || state_of(g)[TRESTLEPIP_AT_WAITING] == 1)
+        return false;
+    if (g->loads_left == 0 && percent(g, 15))
+        g->loads_left = between(g, 6, 20);
+    g->loads_left -= g->loads_left != 0;
+    return g->loads_left != 0;
+}
+
 /* A command; a page not started is the time for loads. */
 static void command(struct generator *g, struct call *c)
 {
     c->kind = CALL_COMMAND;
     c->buffer_len = percent(g, 50) ? 0 : below(g, REPLY_ROOM + 1);
+    if (tend_set_up(g)) {
+        load_command(g, c);
+        return;
+    }
     switch (started_now(g) ? WEIGHTED(g, 800, 60, 25, 95, 20) : WEIGHTED(g, 420, 30, 400, 130, 20)) {
     case 0: write_command(g, c); break;
     case 1: move_command(g, c); break;
@@ -102,6 +129,8 @@ static void start_listed(struct generator *g, struct call *c)
         c->pitch[i] = pitches[below(g, i == 0 ? 3 : 4)];
     if (percent(g, 35))
         c->pitch[0] = c->pitch[1] = c->pitch[2] = c->pitch[3] = 10;
+    if (g->calm && percent(g, 50))
+        c->form = FORM_LONGEST;
 }
 
 /* One of Start's numbers, not listed, also such that its low bits are. */
@@ -130,13 +159,19 @@ static void wrong_size(struct generator *g, struct call *c)
     }
 }
 
+/* How often a line is written again, and how often a page is left by a skip; calm lists skip more, so that they get to many pages. */
+static void choose_moods(struct generator *g)
+{
+    static const unsigned overprint[] = { 5, 30, 60 }, skips[] = { 1, 3, 8, 20 }, calm_skips[] = { 2, 25, 40, 60 };
+    g->percent_overprint = overprint[below(g, COUNT(overprint))];
+    g->percent_skip = (g->calm ? calm_skips : skips)[below(g, COUNT(skips))];
+}
+
 /* Start; the moods of the printing after it are chosen anew. */
 static void start(struct generator *g, struct call *c)
 {
-    static const unsigned overprint[] = { 5, 30, 60 }, skips[] = { 1, 3, 8, 20 };
     c->kind = CALL_START;
-    g->percent_overprint = overprint[below(g, COUNT(overprint))];
-    g->percent_skip = skips[below(g, COUNT(skips))];
+    choose_moods(g);
     start_listed(g, c);
     if (g->made > 1 && percent(g, 15))
         start_fault(g, c);
@@ -175,10 +210,18 @@ static void compose(struct generator *g, struct call *c, uint32_t copy)
     }
 }
 
+/* Release; the moods of a calm printer change between pages. */
+static void release(struct generator *g, struct call *c)
+{
+    c->kind = CALL_RELEASE;
+    if (g->calm && percent(g, 30))
+        choose_moods(g);
+}
+
 /* A page waits: it is composed, commands are tried, and it is released; now and then all its copies are composed in a row. */
 static void while_waiting(struct generator *g, struct call *c)
 {
-    if (g->copy_run == 0 && percent(g, 2))
+    if (g->copy_run == 0 && permille(g, g->calm ? 7 : 20))
         g->copy_run = 1;
     if (g->copy_run != 0) {
         compose(g, c, g->copy_run);
@@ -187,7 +230,7 @@ static void while_waiting(struct generator *g, struct call *c)
     }
     switch (WEIGHTED(g, 48, 38, 14)) {
     case 0: compose(g, c, copy_index(g)); break;
-    case 1: c->kind = CALL_RELEASE; break;
+    case 1: release(g, c); break;
     default: command(g, c); break;
     }
 }
@@ -215,20 +258,22 @@ static void clean(struct generator *g, struct call *c)
     memset(c->damaged, 0, sizeof c->damaged);
 }
 
-/* Whether it is time for a Start: at first, after a state is lost, and now and then. */
+/* Whether it is time for a Start: at first; if the list is not calm, also after a state is lost, and now and then. */
 static bool start_due(struct generator *g, unsigned answered)
 {
-    if (g->made == 1)
-        return true;
+    if (g->made == 1 || g->calm)
+        return g->made == 1;
     if (form_now(g) == 0 || (answered == 9 && g->undo_count == 0))
         return percent(g, 60);
     return permille(g, 6);
 }
 
-void generator_begin(struct generator *g, uint64_t seed, uint64_t list, const uint8_t *const stores[STORES])
+void generator_begin(struct generator *g, uint64_t seed, uint64_t list, bool calm, const uint8_t *const stores[STORES])
 {
     uint64_t x = seed ^ splitmix(&list);
     memset(g, 0, sizeof *g);
+    g->calm = calm;
+    g->permille_wrong_size = calm ? 0 : 12;
     for (unsigned i = 0; i < 4; i++)
         g->word[i] = splitmix(&x);
     memcpy(g->stores, stores, sizeof g->stores);
@@ -240,13 +285,14 @@ void generator_next(struct generator *g, unsigned answered, struct call *c)
     g->undo_count = new_printer ? 0 : g->undo_count;
     g->made++;
     clean(g, c);
-    tend_damage(g, c);
+    if (!g->calm)
+        tend_damage(g, c);
     if (start_due(g, answered))
         start(g, c);
     else if (state_of(g)[TRESTLEPIP_AT_WAITING] == 1)
         while_waiting(g, c);
     else
         while_printing(g, c);
-    if (c->kind != CALL_START && permille(g, 12))
+    if (c->kind != CALL_START && permille(g, g->permille_wrong_size))
         wrong_size(g, c);
 }

@@ -48,21 +48,24 @@ struct call {
     bool damaged[STORES];
 };
 
-/* What the generator keeps from call to call. */
+/* What the generator keeps from call to call. A calm one makes no Start except the first, and damages nothing. */
 struct generator {
     uint64_t word[4];
+    bool calm;
     unsigned made;
     struct change undo[CHANGES_MOST];
     size_t undo_count;
     unsigned damage_left;
     unsigned percent_overprint;
     unsigned percent_skip;
+    unsigned permille_wrong_size;
+    unsigned loads_left;
     uint32_t copy_run;
     const uint8_t *stores[STORES];
 };
 
-/* Makes the generator of one list; the stores are those whose state it looks at to choose well. */
-void generator_begin(struct generator *g, uint64_t seed, uint64_t list, const uint8_t *const stores[STORES]);
+/* Makes the generator of one list, calm or not; the stores are those whose state it looks at to choose well. */
+void generator_begin(struct generator *g, uint64_t seed, uint64_t list, bool calm, const uint8_t *const stores[STORES]);
 
 /* Fills bytes at random. */
 void generator_fill(struct generator *g, uint8_t *bytes, size_t count);

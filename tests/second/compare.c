@@ -7,10 +7,10 @@
 
 enum { AFTER_SENSE = TRESTLEPIP_AT_SENSE_23 + 1 };
 
-static const char *const part_name[PARTS] = { "state", "page", "legends", "tables", "record", "reply", "output" };
+const char *const part_name[PARTS] = { "state", "page", "legends", "tables", "record", "reply", "output" };
 
 /* The first byte in which two stretches differ; they do. */
-static size_t first_difference(const uint8_t *a, const uint8_t *b)
+size_t first_difference(const uint8_t *a, const uint8_t *b)
 {
     size_t at = 0;
     while (a[at] == b[at])

@@ -12,6 +12,12 @@ struct difference {
     unsigned library, expected;
 };
 
+/* The names of the lent buffers. */
+extern const char *const part_name[PARTS];
+
+/* The first byte in which two stretches differ; they do. */
+size_t first_difference(const uint8_t *a, const uint8_t *b);
+
 /* Whether a buffer that the call was lent differs from the second program's, or a canary was written; tells where. */
 bool buffers_differ(const struct run *r, struct difference *d);
 

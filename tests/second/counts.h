@@ -3,8 +3,15 @@
 #define COUNTS_H
 
 #include "calls.h"
+#include "table.h"
 
 enum { NUMBERS = 12, CAUSES = 11 };
+
+/* What a list has met; it is disturbed by a Start after its first call, by a byte that the driver sets, and by a store of wrong size. */
+struct list_counts {
+    unsigned long calls, releases, resets_at_once, resets_deferred, nines;
+    bool disturbed;
+};
 
 struct counts {
     unsigned long number[NUMBERS];
@@ -15,15 +22,22 @@ struct counts {
     unsigned long command[256];
     unsigned long form[FORMS];
     unsigned long page_ready, deferred_reset;
-    unsigned long copy, copy_covered, copy_overlapped, copy_above_255;
+    unsigned long write_on_last_line, all_slots_loaded;
+    unsigned long copy, copy_covered, copy_overlapped, copy_above_255, copy_of_last_number, copy_of_most_lines;
     unsigned long start_refused_sized;
     unsigned long state_refused, state_taken, legends_refused, legends_taken, cells_taken;
+    unsigned long lists_long, lists_of_pages;
+    unsigned long run_so_far, runs, runs_short;
+    struct list_counts list, undisturbed;
 };
 
 /* Adds one call: its answer, and the stores before and after it. */
 void counts_add(struct counts *n, const struct call *c, uint64_t answer, uint8_t *const before[STORES], const uint8_t *const after[STORES]);
 
+/* Adds the list whose last call was added: only now is it known whether it was disturbed. */
+void counts_end_list(struct counts *n);
+
 /* Prints the table, a count a line, and then names each that is not as it must be; gives how many those are. */
-unsigned counts_print(const struct counts *n);
+struct faults counts_print(const struct counts *n);
 
 #endif

@@ -1,5 +1,6 @@
-/* The driver: runs lists of calls, or a script, on the library and on the second program, and compares what they give. */
+/* The driver: runs lists of calls, or a script, on the library and on the second program, and compares what they give; or demand 3 on pairs. */
 #include "counts.h"
+#include "demand3.h"
 #include "programs.h"
 #include "run.h"
 #include "script.h"
@@ -8,9 +9,13 @@
 #include <stdlib.h>
 #include <string.h>
 
+/* The seed where none is given. */
+enum { SEED = 3800 };
+
 static void usage(void)
 {
-    fprintf(stderr, "drive: usage: drive [--calls N] [--seed S] [--lists L] [--guard]; L is not 0 and not above N\n"
+    fprintf(stderr, "drive: usage: drive [--calls N] [--seed S] [--lists L] [--guard] [--meet-all]; L is not above N\n"
+            "              drive --demand-3 N [--seed S]\n"
             "              drive --script FILE --expect FILE\n");
     exit(2);
 }
@@ -26,24 +31,42 @@ static unsigned long long number_argument(const char *text)
     return value;
 }
 
+/* A number of calls, lists or pairs. */
+static unsigned long long count_argument(const char *text)
+{
+    unsigned long long value = number_argument(text);
+    if (value == 0)
+        usage();
+    return value;
+}
+
 static struct options read_options(char **argument)
 {
-    struct options o = { .calls = 200000, .lists = 200, .seed = 3800 };
+    struct options o = { .calls = 200000, .seed = SEED };
     for (; *argument != NULL; argument++) {
         if (strcmp(*argument, "--guard") == 0)
             o.guard_all = true;
+        else if (strcmp(*argument, "--meet-all") == 0)
+            o.meet_all = true;
         else if (strcmp(*argument, "--calls") == 0)
-            o.calls = number_argument(*++argument);
+            o.calls = count_argument(*++argument);
         else if (strcmp(*argument, "--lists") == 0)
-            o.lists = number_argument(*++argument);
+            o.lists = count_argument(*++argument);
         else if (strcmp(*argument, "--seed") == 0)
             o.seed = number_argument(*++argument);
         else
             usage();
     }
-    if (o.lists == 0 || o.lists > o.calls)
+    o.lists = o.lists == 0 ? usual_lists(o.calls) : o.lists;
+    if (o.lists > o.calls)
         usage();
     return o;
+}
+
+/* Prints what is made, or has been. */
+static void print_made(unsigned long long calls, const struct options *o, const char *also)
+{
+    printf("%llu call%s in %llu list%s, seed %llu%s\n", calls, calls == 1 ? "" : "s", o->lists, o->lists == 1 ? "" : "s", o->seed, also);
 }
 
 /* Lists of calls, and the table of what they met; whether all is as it must be. */
@@ -51,16 +74,26 @@ static bool lists_hold(struct options options)
 {
     static struct run r;
     r.options = options;
-    printf("%llu calls, %llu lists, seed %llu, guard pages for %s\n", r.options.calls, r.options.lists, r.options.seed,
-            r.options.guard_all ? "all lists" : "two lists of each four");
+    print_made(r.options.calls, &r.options, r.options.guard_all ? ", guard pages for all lists" : ", guard pages for two lists of each four");
     fflush(stdout);
     make_buffers(&r);
     catch_faults();
     if (!run_lists(&r))
         return false;
-    unsigned missing = counts_print(&r.counts);
-    printf("%llu calls in %llu lists, seed %llu: 0 differences\n", r.calls_made, r.options.lists, r.options.seed);
-    return missing == 0;
+    struct faults f = counts_print(&r.counts);
+    print_made(r.calls_made, &r.options, ": 0 differences");
+    return f.forbidden == 0 && (f.missing == 0 || !r.options.meet_all);
+}
+
+/* Pairs of printers, with no other option than the seed. */
+static bool demand_3_argument(char **argument)
+{
+    unsigned long long pairs = count_argument(argument[0]);
+    if (argument[1] == NULL)
+        return demand_3_holds(pairs, SEED);
+    if (strcmp(argument[1], "--seed") != 0 || argument[2] == NULL || argument[3] != NULL)
+        usage();
+    return demand_3_holds(pairs, number_argument(argument[2]));
 }
 
 static bool asks_for_script(int count, char **arguments)
@@ -68,9 +101,17 @@ static bool asks_for_script(int count, char **arguments)
     return count == 5 && strcmp(arguments[1], "--script") == 0 && strcmp(arguments[3], "--expect") == 0;
 }
 
+/* What the command line asks for, and whether it holds. */
+static bool all_holds(int count, char **arguments)
+{
+    if (asks_for_script(count, arguments))
+        return script_holds(arguments[2], arguments[4]);
+    if (count > 1 && strcmp(arguments[1], "--demand-3") == 0)
+        return demand_3_argument(arguments + 2);
+    return lists_hold(read_options(arguments + (count > 0 ? 1 : 0)));
+}
+
 int main(int count, char **arguments)
 {
-    bool holds = asks_for_script(count, arguments) ? script_holds(arguments[2], arguments[4])
-                                                   : lists_hold(read_options(arguments + (count > 0 ? 1 : 0)));
-    return holds ? 0 : 1;
+    return all_holds(count, arguments) ? 0 : 1;
 }

@@ -1,4 +1,5 @@
-/* What the parts of the generator share: chance.c has its random numbers, records.c looks at the state and makes records, damage.c damages stores. */
+/* What the parts of the generator share: chance.c has its random numbers, look.c looks at the state, records.c, fcb_records.c and
+ * legend_records.c make records, damage.c damages stores. */
 #ifndef MAKING_H
 #define MAKING_H
 
@@ -40,6 +41,9 @@ const uint8_t *state_of(const struct generator *g);
 unsigned form_now(const struct generator *g);
 bool started_now(const struct generator *g);
 
+/* The units of an FCB byte; a damaged one counts as 6 lines per inch. */
+unsigned units(uint8_t fcb_byte);
+
 /* The printable lines, at least 1 and at most 132 for any bytes. */
 unsigned lines_now(const struct generator *g);
 
@@ -51,6 +55,12 @@ unsigned channel_near(struct generator *g);
 
 /* A slot that is loaded, mostly one of the higher. */
 unsigned slot_near(struct generator *g);
+
+/* A slot that is not loaded: the selected one if it is not, else the lowest; the selected one if all are loaded. */
+unsigned slot_to_load(const struct generator *g);
+
+/* The text of a write or of a segment; count is not 0. */
+void text(struct generator *g, uint8_t *bytes, size_t count);
 
 /* A record of this length with bytes that no command reads in order. */
 void any_record(struct generator *g, struct call *c, size_t length);

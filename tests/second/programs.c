@@ -11,6 +11,15 @@
 
 static const struct exports library = EXPORTS(trestlepip), second = EXPORTS(second);
 
+/* The record and the old bytes of reply and output, which differ from call to call so that a write left out is seen. */
+void lay_out(const struct set *s, const struct call *c, unsigned old)
+{
+    memcpy(last_bytes(s, RECORD, c->record_len), c->record, c->record_len);
+    memset(last_bytes(s, REPLY, REPLY_ROOM), (int)(old & 0xFF), REPLY_ROOM);
+    if (c->kind == CALL_COMPOSE)
+        memset(last_bytes(s, OUT, OUT_ROOM), (int)(old & 0xFF), OUT_ROOM);
+}
+
 /* What a call is handed: null for some empty buffers; a store of wrong size from the begin of the right one, or up to its end. */
 static uint8_t *handed(const struct set *s, unsigned part, size_t length, const struct call *c)
 {

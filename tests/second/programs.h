@@ -5,6 +5,9 @@
 #include "calls.h"
 #include "lent.h"
 
+/* Lays out the record of the next call, and old bytes for its reply and output. */
+void lay_out(const struct set *s, const struct call *c, unsigned old);
+
 /* From now on a fault in the library comes back to the driver. */
 void catch_faults(void);
 

@@ -20,9 +20,8 @@ static void print_lengths(const struct call *c)
             c->store_len[PAGE], c->store_len[LEGENDS], c->store_len[TABLES], c->buffer_len, c->null_if_empty ? "null" : "not null");
 }
 
-static void print_call(const struct run *r)
+void print_call(const struct call *c, const uint8_t *state)
 {
-    const struct call *c = &r->call;
     if (c->kind == CALL_START)
         printf("Start: form %u, pitches %u %u %u %u\n", c->form, c->pitch[0], c->pitch[1], c->pitch[2], c->pitch[3]);
     else if (c->kind == CALL_COMPOSE)
@@ -32,17 +31,17 @@ static void print_call(const struct run *r)
     print_lengths(c);
     if (c->kind == CALL_COMMAND)
         print_bytes("record", c->record, c->record_len);
-    print_bytes("state before", r->before[STATE], store_size[STATE]);
+    print_bytes("state before", state, store_size[STATE]);
 }
 
-static void print_field(const char *name, unsigned in_library_answer, unsigned in_second_answer)
+static void print_field(const char *name, unsigned in_a, unsigned in_b)
 {
-    printf("    %-12s %10X %10X%s\n", name, in_library_answer, in_second_answer, in_library_answer == in_second_answer ? "" : "  differ");
+    printf("    %-12s %10X %10X%s\n", name, in_a, in_b, in_a == in_b ? "" : "  differ");
 }
 
-void print_answers(uint64_t a, uint64_t b)
+void print_answers(const char *a_name, uint64_t a, const char *b_name, uint64_t b)
 {
-    printf("answers (hex)       library     second\n");
+    printf("answers (hex)    %10s %10s\n", a_name, b_name);
     print_field("number", trestlepip_number(a), trestlepip_number(b));
     print_field("status", trestlepip_status(a), trestlepip_status(b));
     print_field("page ready", trestlepip_ready(a), trestlepip_ready(b));
@@ -57,7 +56,7 @@ void print_place(const struct run *r)
 {
     printf("difference: seed %llu, list %llu of %llu, call %llu of the list (%llu calls asked for, %s)\n", r->options.seed, r->list,
             r->options.lists, r->call_in_list, r->options.calls, r->library == &r->guarded ? "guard pages" : "canaries");
-    print_call(r);
+    print_call(&r->call, r->before[STATE]);
 }
 
 void print_difference(const struct difference *d)

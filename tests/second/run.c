@@ -5,6 +5,7 @@
 
 #include "../../include/trestlepip.h"
 #include "compare.h"
+#include "making.h"
 #include "programs.h"
 #include "report.h"
 
@@ -12,6 +13,32 @@
 #include <string.h>
 #include <time.h>
 #include <unistd.h>
+
+/* The first list of each four is calm, and four times as long as another, so that it comes to a hundred pages and more. */
+enum { LISTS_OF_FOUR = 4, SHARES_CALM = 4, CALLS_ON_AVERAGE = 1750 };
+
+unsigned long long usual_lists(unsigned long long calls)
+{
+    return calls < CALLS_ON_AVERAGE ? 1 : calls / CALLS_ON_AVERAGE;
+}
+
+/* Which four a list is of, from 0. */
+static unsigned long long four_of(unsigned long long list)
+{
+    return (list - 1) / LISTS_OF_FOUR;
+}
+
+static bool is_calm(unsigned long long list)
+{
+    return list % LISTS_OF_FOUR == 1;
+}
+
+/* The shares of the first lists together. */
+static unsigned long long shares_of_first(unsigned long long lists)
+{
+    unsigned long long calm = (lists + LISTS_OF_FOUR - 1) / LISTS_OF_FOUR;
+    return lists + calm * (SHARES_CALM - 1);
+}
 
 void make_buffers(struct run *r)
 {
@@ -38,15 +65,6 @@ static void apply_changes(struct run *r)
         memcpy(store(&r->second, x->store) + x->offset, x->bytes, x->count);
         memcpy(r->before[x->store] + x->offset, x->bytes, x->count);
     }
-}
-
-/* The record and the old bytes of reply and output, which differ from call to call so that a write left out is seen. */
-static void lay_out(const struct set *s, const struct call *c, unsigned old)
-{
-    memcpy(last_bytes(s, RECORD, c->record_len), c->record, c->record_len);
-    memset(last_bytes(s, REPLY, REPLY_ROOM), (int)(old & 0xFF), REPLY_ROOM);
-    if (c->kind == CALL_COMPOSE)
-        memset(last_bytes(s, OUT, OUT_ROOM), (int)(old & 0xFF), OUT_ROOM);
 }
 
 /* The stores as they are now become those before the next call. */
@@ -84,7 +102,7 @@ static bool agree(const struct run *r)
     if (same_answer && !buffers)
         return true;
     print_place(r);
-    print_answers(r->library_answer, r->second_answer);
+    print_answers("library", r->library_answer, "second", r->second_answer);
     if (buffers)
         print_difference(&d);
     return false;
@@ -115,9 +133,10 @@ static bool run_call(struct run *r)
 /* The stores before a list's first Start: zeros or any bytes, alike for both. */
 static void lay_stores(struct run *r)
 {
+    bool any = percent(&r->generator, 50);
     for (enum store i = STATE; i <= TABLES; i++) {
         memset(r->before[i], 0, store_size[i]);
-        if (r->list % 2 == 0)
+        if (any)
             generator_fill(&r->generator, r->before[i], store_size[i]);
         memcpy(store(r->library, i), r->before[i], store_size[i]);
         memcpy(store(&r->second, i), r->before[i], store_size[i]);
@@ -131,28 +150,42 @@ static void lay_buffers(const struct set *s)
         memset(s->part[i].end - s->part[i].room, 0, s->part[i].room);
 }
 
-/* One list; guard pages serve all lists or two of each four. */
+/* Whether guard pages serve a list: two lists of each four, and every other calm one. */
+static bool is_guarded(const struct run *r)
+{
+    return r->options.guard_all || (four_of(r->list) + r->list) % 2 == 0;
+}
+
+/* One list. */
 static bool run_list(struct run *r, unsigned long long calls)
 {
-    r->library = r->options.guard_all || r->list % 4 < 2 ? &r->guarded : &r->plain;
+    r->library = is_guarded(r) ? &r->guarded : &r->plain;
     const struct set *s = &r->second;
     const uint8_t *const looked_at[STORES] = { store(s, STATE), store(s, PAGE), store(s, LEGENDS), store(s, TABLES) };
-    generator_begin(&r->generator, r->options.seed, r->list, looked_at);
+    generator_begin(&r->generator, r->options.seed, r->list, is_calm(r->list), looked_at);
     lay_stores(r);
     lay_buffers(r->library);
     lay_buffers(&r->second);
     for (r->call_in_list = 1; r->call_in_list <= calls; r->call_in_list++)
         if (!run_call(r))
             return false;
+    counts_end_list(&r->counts);
     return true;
 }
 
-/* All lists; the calls are shared among them as evenly as they can be. */
+/* How many of the calls the first lists have: one each, and their shares of the rest; no product is beyond the number's range. */
+static unsigned long long calls_of_first(const struct options *o, unsigned long long lists)
+{
+    unsigned long long rest = o->calls - o->lists, first = shares_of_first(lists), all = shares_of_first(o->lists);
+    return lists + rest / all * first + rest % all * first / all;
+}
+
+/* All lists; they have all calls together. */
 bool run_lists(struct run *r)
 {
     const struct options *o = &r->options;
     for (r->list = 1; r->list <= o->lists; r->list++)
-        if (!run_list(r, o->calls / o->lists + (r->list <= o->calls % o->lists ? 1 : 0)))
+        if (!run_list(r, calls_of_first(o, r->list) - calls_of_first(o, r->list - 1)))
             return false;
     return true;
 }

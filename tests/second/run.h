@@ -8,7 +8,7 @@
 
 struct options {
     unsigned long long calls, lists, seed;
-    bool guard_all;
+    bool guard_all, meet_all;
 };
 
 /* The sets of both programs, and the stores as they were before the call. */
@@ -23,6 +23,9 @@ struct run {
     uint64_t library_answer, second_answer;
     struct counts counts;
 };
+
+/* How many lists so many calls make, so that calm ones have 1,000 calls or more if there are so many. */
+unsigned long long usual_lists(unsigned long long calls);
 
 /* Makes the sets, and room for the stores before the call. */
 void make_buffers(struct run *r);

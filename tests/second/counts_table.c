@@ -1,0 +1,127 @@
+/* The table of counts: a name for each, and the least that it has to be. */
+#include "counts.h"
+
+#include "parts.h"
+
+#include <stdio.h>
+
+/* Numbers 0 to 10 have to be met; number 11 cannot occur. */
+static void number_rows(struct table *t, const struct counts *n)
+{
+    static const char *const names[NUMBERS] = {
+        "number 0: accepted", "number 1: byte not listed", "number 2: write or load record", "number 3: load check",
+        "number 4: page waiting", "number 5: load on a started page", "number 6: no page waiting", "number 7: copy index",
+        "number 8: output or reply too short", "number 9: store of wrong size or contents", "number 10: form or pitch not listed",
+        "number 11: two pages completed"
+    };
+    for (unsigned i = 0; i < NUMBERS; i++)
+        table_add(t, names[i], n->number[i], i == TRESTLEPIP_TWO_PAGES ? NEVER : 1);
+}
+
+/* Causes 1 to 10 of a load check. */
+static void cause_rows(struct table *t, const struct counts *n)
+{
+    static const char *const names[CAUSES] = {
+        "", "cause 1: FCB channel above 12", "cause 2: FCB spacing", "cause 3: FCB sum", "cause 4: FCB channel in an edge half inch",
+        "cause 5: translate table short", "cause 6: overlay sequence not 1 to 8 pairs", "cause 7: overlay sequence count, mark or total",
+        "cause 8: copy number record", "cause 9: copy modification ends in a segment or is empty", "cause 10: copy modification field"
+    };
+    for (unsigned i = 1; i < CAUSES; i++)
+        table_add(t, names[i], n->cause[i], 1);
+}
+
+/* What accepted commands reported, or Block hid. */
+static void report_rows(struct table *t, const struct counts *n)
+{
+    TABLE_ADD_ROWS(t, { "data check 80: unprintable", n->data_check[UNPRINTABLE], 1 },
+            { "data check 20: table not loaded", n->data_check[NO_TABLE], 1 }, { "data check 10: no channel match", n->data_check[NO_MATCH], 1 },
+            { "data check 08: multiple characters", n->data_check[MULTIPLE], 1 },
+            { "data check 80 hidden by Block", n->hidden_unprintable, 1 }, { "data check 08 hidden by Block", n->hidden_multiple, 1 },
+            { "unit exception (channel 12)", n->unit_exception, 1 }, { "channel 9", n->channel_9, 1 });
+}
+
+/* The accepted commands of one skip kind, all channels together. */
+static unsigned long skips(const struct counts *n, unsigned lowest)
+{
+    unsigned long sum = 0;
+    for (unsigned channel = 0; channel < 12; channel++)
+        sum += n->command[lowest + 8 * channel];
+    return sum;
+}
+
+/* The accepted commands of that skip code of both kinds which came least. */
+static unsigned long rarest_skip(const struct counts *n)
+{
+    unsigned long least = n->command[0x89];
+    for (unsigned code = 0x89; code <= 0xE3; code += code % 8 == 1 ? 2 : 6)
+        least = n->command[code] < least ? n->command[code] : least;
+    return least;
+}
+
+/* Accepted commands by kind. */
+static void command_rows(struct table *t, const struct counts *n)
+{
+    const unsigned long *c = n->command;
+    TABLE_ADD_ROWS(t, { "01 write, no space", c[0x01], 1 }, { "09 write, space 1", c[0x09], 1 }, { "11 write, space 2", c[0x11], 1 },
+            { "19 write, space 3", c[0x19], 1 }, { "1nnnn001 write and skip", skips(n, 0x89), 1 }, { "0B space 1", c[0x0B], 1 },
+            { "13 space 2", c[0x13], 1 }, { "1B space 3", c[0x1B], 1 }, { "1nnnn011 skip", skips(n, 0x8B), 1 },
+            { "the skip code that came least", rarest_skip(n), 1 }, { "03 No-Op", c[0x03], 1 }, { "04 Sense", c[0x04], 1 },
+            { "37 Initialize", c[0x37], 1 }, { "87 Clear", c[0x87], 1 }, { "73 Block", c[0x73], 1 }, { "7B Allow", c[0x7B], 1 },
+            { "47 Select 0", c[0x47], 1 }, { "57 Select 1", c[0x57], 1 }, { "67 Select 2", c[0x67], 1 }, { "77 Select 3", c[0x77], 1 },
+            { "63 load FCB", c[0x63], 1 }, { "83 load translate table", c[0x83], 1 }, { "43 load overlay sequence", c[0x43], 1 },
+            { "35 load copy modification", c[0x35], 1 }, { "23 load copy number", c[0x23], 1 });
+}
+
+/* Accepted Starts by form length. */
+static void form_rows(struct table *t, const struct counts *n)
+{
+    char name[NAME_ROOM];
+    for (unsigned i = 0; i < FORMS; i++) {
+        snprintf(name, sizeof name, "Start with form length %u", forms[i]);
+        table_add(t, name, n->form[i], 1);
+    }
+}
+
+/* Pages and copies, and how far writes and copies went. */
+static void page_rows(struct table *t, const struct counts *n)
+{
+    TABLE_ADD_ROWS(t, { "page ready", n->page_ready, 1 }, { "deferred reset done by Release", n->deferred_reset, 1 },
+            { "write on line 132", n->write_on_last_line, 20 }, { "write or legend load while all four slots are loaded", n->all_slots_loaded, 20 },
+            { "copy composed", n->copy, 1 }, { "copy where a legend covered something", n->copy_covered, 1 },
+            { "copy where segments overlapped", n->copy_overlapped, 1 }, { "copy with a number above 255", n->copy_above_255, 1 },
+            { "copy with number 509", n->copy_of_last_number, 5 }, { "copy of 132 lines", n->copy_of_most_lines, 20 });
+}
+
+/* Refused Starts and damage. */
+static void damage_rows(struct table *t, const struct counts *n)
+{
+    TABLE_ADD_ROWS(t, { "refused Start with a right-sized state", n->start_refused_sized, 1 },
+            { "damaged state refused with 9", n->state_refused, 1 }, { "damaged state taken", n->state_taken, 1 },
+            { "damaged legends refused with 9", n->legends_refused, 1 }, { "damaged legends taken", n->legends_taken, 1 },
+            { "damaged page or tables taken", n->cells_taken, 1 });
+}
+
+/* What undisturbed lists met; those alone show that nothing a printer does leaves contents that get 9. */
+static void list_rows(struct table *t, const struct counts *n)
+{
+    TABLE_ADD_ROWS(t, { "undisturbed list of 1,000 calls or more", n->lists_long, 10 },
+            { "such a list with 100 released pages or more", n->lists_of_pages, 10 },
+            { "reset at once in an undisturbed list", n->undisturbed.resets_at_once, 20 },
+            { "deferred reset done in an undisturbed list", n->undisturbed.resets_deferred, 20 },
+            { "number 9 in an undisturbed list", n->undisturbed.nines, NEVER }, { "undisturbed run of calls", n->runs, 1 },
+            { "undisturbed run of fewer than ten calls", n->runs_short, 0 });
+}
+
+struct faults counts_print(const struct counts *n)
+{
+    struct table t = { .count = 0 };
+    number_rows(&t, n);
+    cause_rows(&t, n);
+    report_rows(&t, n);
+    command_rows(&t, n);
+    form_rows(&t, n);
+    page_rows(&t, n);
+    damage_rows(&t, n);
+    list_rows(&t, n);
+    return table_print(&t);
+}

@@ -1,0 +1,10 @@
+/* Demand 3, run: pairs of printers that agree since a finished reset, whatever came before it. */
+#ifndef DEMAND3_H
+#define DEMAND3_H
+
+#include <stdbool.h>
+
+/* Runs so many pairs on the library and prints what they met; false if two printers differ, or if something was not met. */
+bool demand_3_holds(unsigned long long pairs, unsigned long long seed);
+
+#endif

@@ -1,0 +1,80 @@
+/* What the generator sees of the printer: its stores may be damaged, so any bytes are taken. */
+#include "making.h"
+
+const uint8_t *state_of(const struct generator *g)
+{
+    return g->stores[STATE];
+}
+
+unsigned form_now(const struct generator *g)
+{
+    return state_of(g)[TRESTLEPIP_AT_FORM] * 256u + state_of(g)[TRESTLEPIP_AT_FORM + 1];
+}
+
+/* The units of an FCB byte; a damaged one counts as 6 lines per inch. */
+unsigned units(uint8_t fcb_byte)
+{
+    return fcb_byte >> 4 == 3 ? 2 : fcb_byte >> 4 == 1 ? 3 : 4;
+}
+
+/* The printable lines, at least 1 and at most 132 for any bytes. */
+unsigned lines_now(const struct generator *g)
+{
+    const uint8_t *s = state_of(g);
+    unsigned top = 0, lines = 0;
+    for (unsigned i = 0; i < s[TRESTLEPIP_AT_FCB_COUNT] && i < TRESTLEPIP_FCB_MOST; i++) {
+        lines += top >= 12 && top + 12 < form_now(g);
+        top += units(s[TRESTLEPIP_AT_FCB + i]);
+    }
+    return lines == 0 ? 1 : lines > 132 ? 132 : lines;
+}
+
+/* The copies of the sequence, at least 1 for any bytes. */
+unsigned copies_now(const struct generator *g)
+{
+    const uint8_t *s = state_of(g);
+    unsigned copies = 0;
+    for (unsigned i = 0; i < s[TRESTLEPIP_AT_SEQUENCE_COUNT] && i < TRESTLEPIP_SEQUENCE_MOST; i += 2)
+        copies += s[TRESTLEPIP_AT_SEQUENCE + i];
+    return copies == 0 ? 1 : copies;
+}
+
+bool started_now(const struct generator *g)
+{
+    return state_of(g)[TRESTLEPIP_AT_LINE] != 1 || state_of(g)[TRESTLEPIP_AT_WRITTEN] != 0;
+}
+
+/* A channel that some line of the FCB has, or any if the line looked at has none. */
+unsigned channel_near(struct generator *g)
+{
+    const uint8_t *s = state_of(g);
+    unsigned count = s[TRESTLEPIP_AT_FCB_COUNT] > TRESTLEPIP_FCB_MOST ? TRESTLEPIP_FCB_MOST : s[TRESTLEPIP_AT_FCB_COUNT];
+    unsigned first = below(g, count);
+    for (unsigned i = first; i < count; i++)
+        if (s[TRESTLEPIP_AT_FCB + i] % 16 >= 1 && s[TRESTLEPIP_AT_FCB + i] % 16 <= 12)
+            return s[TRESTLEPIP_AT_FCB + i] % 16u;
+    return between(g, 1, 12);
+}
+
+static bool is_loaded(const struct generator *g, unsigned slot)
+{
+    return state_of(g)[TRESTLEPIP_AT_LOADED + slot] == 1;
+}
+
+/* A slot that is loaded, mostly one of the higher. */
+unsigned slot_near(struct generator *g)
+{
+    unsigned slot = below(g, TRESTLEPIP_SLOTS);
+    while (slot > 0 && !is_loaded(g, slot))
+        slot--;
+    return slot;
+}
+
+/* A slot that is not loaded: the selected one if it is not, else the lowest; the selected one if all are loaded. */
+unsigned slot_to_load(const struct generator *g)
+{
+    unsigned selected = state_of(g)[TRESTLEPIP_AT_SELECTED] % TRESTLEPIP_SLOTS, slot = 0;
+    while (slot < TRESTLEPIP_SLOTS && is_loaded(g, slot))
+        slot++;
+    return slot == TRESTLEPIP_SLOTS || !is_loaded(g, selected) ? selected : slot;
+}
