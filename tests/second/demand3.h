@@ -4,7 +4,7 @@
 
 #include <stdbool.h>
 
-/* Runs so many pairs on the library and prints what they met; false if two printers differ, or if something was not met. */
-bool demand_3_holds(unsigned long long pairs, unsigned long long seed);
+/* Runs so many pairs on the library and prints what they met; false if two printers differ, or, where all is to be met, if something was not. */
+bool demand_3_holds(unsigned long long pairs, unsigned long long seed, bool meet_all);
 
 #endif

@@ -9,13 +9,10 @@
 #include <stdlib.h>
 #include <string.h>
 
-/* The seed where none is given. */
-enum { SEED = 3800 };
-
 static void usage(void)
 {
     fprintf(stderr, "drive: usage: drive [--calls N] [--seed S] [--lists L] [--guard] [--meet-all]; L is not above N\n"
-            "              drive --demand-3 N [--seed S]\n"
+            "              drive --demand-3 N [--seed S] [--meet-all]\n"
             "              drive --script FILE --expect FILE\n");
     exit(2);
 }
@@ -42,12 +39,14 @@ static unsigned long long count_argument(const char *text)
 
 static struct options read_options(char **argument)
 {
-    struct options o = { .calls = 200000, .seed = SEED };
+    struct options o = { .calls = 200000, .seed = 3800 };
     for (; *argument != NULL; argument++) {
         if (strcmp(*argument, "--guard") == 0)
             o.guard_all = true;
         else if (strcmp(*argument, "--meet-all") == 0)
             o.meet_all = true;
+        else if (strcmp(*argument, "--demand-3") == 0)
+            o.pairs = count_argument(*++argument);
         else if (strcmp(*argument, "--calls") == 0)
             o.calls = count_argument(*++argument);
         else if (strcmp(*argument, "--lists") == 0)
@@ -85,17 +84,6 @@ static bool lists_hold(struct options options)
     return f.forbidden == 0 && (f.missing == 0 || !r.options.meet_all);
 }
 
-/* Pairs of printers, with no other option than the seed. */
-static bool demand_3_argument(char **argument)
-{
-    unsigned long long pairs = count_argument(argument[0]);
-    if (argument[1] == NULL)
-        return demand_3_holds(pairs, SEED);
-    if (strcmp(argument[1], "--seed") != 0 || argument[2] == NULL || argument[3] != NULL)
-        usage();
-    return demand_3_holds(pairs, number_argument(argument[2]));
-}
-
 static bool asks_for_script(int count, char **arguments)
 {
     return count == 5 && strcmp(arguments[1], "--script") == 0 && strcmp(arguments[3], "--expect") == 0;
@@ -106,9 +94,8 @@ static bool all_holds(int count, char **arguments)
 {
     if (asks_for_script(count, arguments))
         return script_holds(arguments[2], arguments[4]);
-    if (count > 1 && strcmp(arguments[1], "--demand-3") == 0)
-        return demand_3_argument(arguments + 2);
-    return lists_hold(read_options(arguments + (count > 0 ? 1 : 0)));
+    struct options options = read_options(arguments + (count > 0 ? 1 : 0));
+    return options.pairs != 0 ? demand_3_holds(options.pairs, options.seed, options.meet_all) : lists_hold(options);
 }
 
 int main(int count, char **arguments)

@@ -7,7 +7,7 @@
 #include "lent.h"
 
 struct options {
-    unsigned long long calls, lists, seed;
+    unsigned long long calls, lists, pairs, seed;
     bool guard_all, meet_all;
 };
 
