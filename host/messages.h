@@ -26,9 +26,9 @@
 #define SAYS_LONG_LINE "%s:%zu: the line is longer than %d bytes\n"
 #define SAYS_NUL "%s:%zu: the line has a byte 00, which is no text\n"
 #define SAYS_QUOTE "%s:%zu: a double quote is not closed, or text follows it\n"
-#define SAYS_FIELDS "%s:%zu: the line has %zu fields, not place, tag, name, kilograms\n"
-#define SAYS_EMPTY "%s:%zu: the %s is empty\n"
-#define SAYS_LONG_FIELD "%s:%zu: the %s is longer than %zu characters\n"
+#define SAYS_FIELDS "%s:%zu: the number of fields is %zu, not 4: place, tag, name, kilograms\n"
+#define SAYS_EMPTY "%s:%zu: the field %s is empty\n"
+#define SAYS_LONG_FIELD "%s:%zu: the field %s is longer than %zu characters\n"
 #define SAYS_WEIGHT "%s:%zu: the weight \"%s\" is not from 0.1 to 9999.9 with at most one decimal\n"
 #define SAYS_TWICE "%s:%zu: the tag %s stands in this place on line %zu already\n"
 

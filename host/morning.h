@@ -25,11 +25,11 @@ extern const char *const copy_names[COPIES];
 /* The most characters of a place, a tag and a name: the columns of a sheet. A character has up to four bytes in the file. */
 enum { PLACE_WIDTH = 43, TAG_WIDTH = 9, NAME_WIDTH = 18, CHARACTER_BYTES = 4, DATE_WIDTH = 10 };
 
-/* Weights are in tenths of a kilogram. `next` is the index of the next animal in the same place. */
+/* Weights are in tenths of a kilogram. `place` is an index, and `next` that of the next animal in the same place. */
 struct animal {
     char tag[TAG_WIDTH * CHARACTER_BYTES + 1], name[NAME_WIDTH * CHARACTER_BYTES + 1];
     unsigned tenths;
-    size_t line, next;
+    size_t line, place, next, chained;
 };
 
 struct place {
@@ -68,7 +68,8 @@ void *grown(void *(*allocate)(void *array, size_t bytes), void *array, size_t co
 
 /*
  * A printer with all that the host keeps of it: the four buffers lent to every call, one to compose in, where the output goes and how it is to look.
- * `only` is the number of the one copy to print, 0 for all. `sheet` is the sheet in work, NULL before the first; `line` and `call` say what is done.
+ * `only` is the number of the one copy to print, 0 for all. `sheet` is the sheet in work, NULL before the first, `complete` the
+ * number of the latest that is out; `line` and `call` say what is done.
  */
 struct spool {
     uint8_t state[TRESTLEPIP_STATE_BYTES];

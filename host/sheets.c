@@ -12,21 +12,22 @@ enum { MARGIN_ABOVE = 3, HEADING_LINES = 6, BODY_BYTES = 32, MARGIN_BELOW = 4, S
 enum { HEAD_BYTES = MARGIN_ABOVE + HEADING_LINES, LAST_LINE = HEADING_LINES + BODY_BYTES - MARGIN_BELOW };
 
 /* The lines. Channel 1 is the first; channel 2 the first of the weights; channel 12 the first below them, where the totals begin. */
-enum { PLACE_LINE = 1, COPY_LINE = 2, SAMPLE_LINE = 5, BODY_LINE = HEADING_LINES + 1, TOTALS_LINE = 30, TOTALS_LINES = 3 };
+enum { PLACE_LINE = 1, COPY_LINE = 2, COLUMNS_LINE = 4, SAMPLE_LINE = 5, BODY_LINE = HEADING_LINES + 1, TOTALS_LINE = 30, TOTALS_LINES = 3 };
 enum { TOP = 1, BODY = 2, BOTTOM = 12, WEIGHTS_PER_SHEET = TOTALS_LINE - BODY_LINE };
+_Static_assert(COLUMNS_LINE < SAMPLE_LINE && SAMPLE_LINE < BODY_LINE, "the legend SAMPLE lies over blanks");
 _Static_assert(TOTALS_LINE + TOTALS_LINES <= LAST_LINE, "the space after the totals stays on the sheet");
 
 /*
  * The positions. A weight and a total end where the figures end; beside a total stands its head count. A figure of 64 bits has up to 20 digits and a
  * point, a count up to 20 digits.
  */
-enum { TAG_AT = 1, NAME_AT = 11, FIGURES_END = 36, HEADS_AT = 39, LEGENDS_AT = 45, SAMPLE_AT = 1 };
-enum { WEIGHT_WIDTH = 6, RULE_WIDTH = 8, LABEL_WIDTH = 12, COUNT_WIDTH = 20, FIGURE_WIDTH = 21, LINE_WIDTH = 64 };
+enum { TAG_AT = 1, NAME_AT = 11, FIGURES_END = 36, COUNT_AT = 39, LEGENDS_AT = 45, SAMPLE_AT = 1 };
+enum { WEIGHT_WIDTH = 6, RULE_WIDTH = 8, LABEL_WIDTH = sizeof "Sheet total" - 1, COUNT_WIDTH = 20, FIGURE_WIDTH = 21, LINE_WIDTH = 64 };
 _Static_assert(PLACE_WIDTH + 1 < LEGENDS_AT, "a blank stands between the place and the date");
 _Static_assert(TAG_AT + TAG_WIDTH < NAME_AT, "a blank stands between the tag and the name");
 _Static_assert(NAME_AT + NAME_WIDTH < FIGURES_END - WEIGHT_WIDTH + 1, "a blank stands between the name and the weight");
-_Static_assert(LABEL_WIDTH < FIGURES_END - FIGURE_WIDTH && FIGURES_END < HEADS_AT, "a total has room beside its label and its count");
-_Static_assert(HEADS_AT + COUNT_WIDTH + (int)sizeof " head" - 1 <= LINE_WIDTH, "a count has room on the line");
+_Static_assert(LABEL_WIDTH < FIGURES_END - FIGURE_WIDTH && FIGURES_END < COUNT_AT, "a total has room beside its label and its count");
+_Static_assert(COUNT_AT + COUNT_WIDTH + (int)sizeof " head" - 1 <= LINE_WIDTH, "a count has room on the line");
 
 static void load_forms(struct spool *spool)
 {
@@ -224,7 +225,7 @@ static void write_total(struct spool *spool, const char *label, size_t heads, ui
     snprintf(count, sizeof count, "%zu head", heads);
     put(&line, TAG_AT, label);
     put_figure(&line, tenths);
-    put(&line, HEADS_AT, count);
+    put(&line, COUNT_AT, count);
     write_line(spool, TRESTLEPIP_WRITE_NO_SPACE, &line);
     write_line(spool, TRESTLEPIP_WRITE_SPACE_1, &under);
 }

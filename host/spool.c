@@ -94,7 +94,7 @@ static void print_page(struct spool *spool)
         hold_back(spool);
         return;
     }
-    spool->complete++;
+    spool->complete = spool->sheet->number;
     begin_call(spool, "release");
     stop_if_refused(spool, trestlepip_release(STORES(spool)));
 }

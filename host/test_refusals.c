@@ -216,9 +216,19 @@ static void check_no_channel_12(void)
     spool.sheet = &sheet;
     spool_send_last(&spool, TRESTLEPIP_WRITE_SPACE_1, letter, sizeof letter);
     spool_send(&spool, TRESTLEPIP_CLEAR, NULL, 0);
-    check(spool.complete == 1 && sheet.out && sheet.held, "not held back: channel", 12);
+    check(spool.complete == sheet.number && sheet.out && sheet.held, "not held back: channel", 12);
     spool_send(&spool, 0x00, NULL, 0);
     end(STOPPED, SAYS_NO_CHANNEL_12 "sheet 7 (Calf house, page 2 of 3), line 1, command 00: refusal 1", "not reported: channel", 12);
+}
+
+/* A sheet that did not come out is not to be held back. */
+static void check_not_out(void)
+{
+    begin(FORM);
+    spool.sheet = &sheet;
+    spool_send(&spool, TRESTLEPIP_WRITE_NO_SPACE, no_letter, sizeof no_letter);
+    spool_send(&spool, 0x00, NULL, 0);
+    end(STOPPED, "is not listed\n" SAYS_NONE_OUT, "said to be out: sheet", 7);
 }
 
 /* A legend that cannot be printed is on every sheet. */
@@ -298,6 +308,7 @@ int main(int argc, char **argv)
     for (size_t i = 0; i < sizeof checks / sizeof *checks; i++)
         check_check(page, i);
     check_no_channel_12();
+    check_not_out();
     check_loads();
     check_memory();
     check_text();

@@ -16,7 +16,7 @@
 #include "messages.h"
 #include "morning.h"
 
-enum { LINE_MOST = 1000, FAULTS_SAID = 20, KILOGRAMS_MOST = 9999 };
+enum { LINE_MOST = 1000, FAULTS_SAID = 20, KILOGRAMS_MOST = 9999, BUCKETS = 1 << 14 };
 enum fields { PLACE, TAG, NAME, KILOGRAMS, FIELDS };
 
 /* The fields as the heading and the messages name them, and how many characters they may have. */
@@ -27,7 +27,10 @@ static const struct {
 
 static const char blanks[] = " \t", digits[] = "0123456789", byte_order_mark[] = "\xEF\xBB\xBF";
 
-/* A file as it is read: `text` is line number `line`, of `length` bytes, of which LINE_MOST are kept. */
+/*
+ * A file as it is read: `text` is line number `line`, of `length` bytes, of which LINE_MOST are kept. Animals are found by place and tag: a bucket has
+ * the number, from 1, of the latest animal that falls into it, and that animal has the number of the one before, 0 for none.
+ */
 struct reader {
     struct herd *herd;
     FILE *from, *reports;
@@ -35,6 +38,7 @@ struct reader {
     size_t line, length, faults;
     bool no_memory;
     char text[LINE_MOST + 1];
+    size_t buckets[BUCKETS];
 };
 
 /* Counts a bad line, and answers whether it is among those to be told. */
@@ -185,12 +189,20 @@ static struct place *place_of(const struct herd *herd, const char *title)
     return NULL;
 }
 
-static const struct animal *animal_of(const struct herd *herd, const struct place *place, const char *tag)
+static size_t bucket_of(size_t place, const char *tag)
 {
-    size_t at = place->first;
-    for (size_t i = 0; i < place->heads; i++, at = herd->animals[at].next)
-        if (strcmp(herd->animals[at].tag, tag) == 0)
-            return &herd->animals[at];
+    size_t mixed = place;
+    for (; *tag != '\0'; tag++)
+        mixed = mixed * 31 + (unsigned char)*tag;
+    return mixed % BUCKETS;
+}
+
+static const struct animal *animal_of(const struct reader *reader, size_t place, const char *tag)
+{
+    const struct animal *animals = reader->herd->animals;
+    for (size_t number = reader->buckets[bucket_of(place, tag)]; number > 0; number = animals[number - 1].chained)
+        if (animals[number - 1].place == place && strcmp(animals[number - 1].tag, tag) == 0)
+            return &animals[number - 1];
     return NULL;
 }
 
@@ -216,35 +228,42 @@ static struct place *add_place(struct herd *herd, const char *title)
     return place;
 }
 
-/* Adds an animal at the end of its place; false if there is no memory. */
-static bool add_animal(struct herd *herd, struct place *place, size_t line, char **fields, unsigned tenths)
+/* Adds an animal at the end of its place. */
+static void add_animal(struct reader *reader, struct place *place, char **fields, unsigned tenths)
 {
+    struct herd *herd = reader->herd;
     struct animal *animals = grown(herd->allocate, herd->animals, herd->animal_count, sizeof *animals);
+    reader->no_memory = !animals;
     if (!animals)
-        return false;
+        return;
+    size_t at = herd->animal_count++, index = (size_t)(place - herd->places), *bucket = &reader->buckets[bucket_of(index, fields[TAG])];
     herd->animals = animals;
-    animals[herd->animal_count] = (struct animal){.tenths = tenths, .line = line};
-    strcpy(animals[herd->animal_count].tag, fields[TAG]);
-    strcpy(animals[herd->animal_count].name, fields[NAME]);
+    animals[at] = (struct animal){.tenths = tenths, .line = reader->line, .place = index, .chained = *bucket};
+    strcpy(animals[at].tag, fields[TAG]);
+    strcpy(animals[at].name, fields[NAME]);
+    *bucket = at + 1;
     if (place->heads++ > 0)
-        animals[place->last].next = herd->animal_count;
-    place->last = herd->animal_count++;
+        animals[place->last].next = at;
+    place->last = at;
     place->tenths += tenths;
-    return true;
 }
 
-/* Takes an animal whose fields are good. */
+/* Takes an animal whose fields are good, unless its place has the tag already. */
 static void take_weight(struct reader *reader, char **fields, unsigned tenths)
 {
-    struct place *place = place_of(reader->herd, fields[PLACE]);
-    const struct animal *earlier = place ? animal_of(reader->herd, place, fields[TAG]) : NULL;
+    struct herd *herd = reader->herd;
+    struct place *place = place_of(herd, fields[PLACE]);
+    const struct animal *earlier = place ? animal_of(reader, (size_t)(place - herd->places), fields[TAG]) : NULL;
     if (earlier && is_told(reader))
         fprintf(reader->reports, SAYS_TWICE, reader->file, reader->line, earlier->tag, earlier->line);
     if (earlier)
         return;
     if (!place)
-        place = add_place(reader->herd, fields[PLACE]);
-    reader->no_memory = !place || !add_animal(reader->herd, place, reader->line, fields, tenths);
+        place = add_place(herd, fields[PLACE]);
+    if (place)
+        add_animal(reader, place, fields, tenths);
+    else
+        reader->no_memory = true;
 }
 
 static void take_animal(struct reader *reader, char **fields)
