@@ -28,11 +28,14 @@ static unsigned copy_of(const char *name)
 static bool take_arguments(struct arguments *arguments, char **argv)
 {
     bool good = true;
-    for (argv++; good && *argv && strncmp(*argv, "--", 2) == 0; argv++)
-        if (strcmp(*argv, "--heads") == 0)
-            arguments->heads = true;
-        else
-            good = strcmp(*argv, "--copy") == 0 && (arguments->only = copy_of(*++argv)) != 0;
+    for (argv++; good && *argv && strncmp(*argv, "--", 2) == 0; argv++) {
+        bool is_copy = strcmp(*argv, "--copy") == 0;
+        bool is_heads = strcmp(*argv, "--heads") == 0;
+        if (is_copy)
+            arguments->only = copy_of(*++argv);
+        arguments->heads = arguments->heads || is_heads;
+        good = is_heads || (is_copy && arguments->only != 0);
+    }
     if (!good || !argv[0] || !argv[1] || argv[2])
         return false;
     arguments->file = argv[0];

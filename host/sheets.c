@@ -48,6 +48,7 @@ static void load_table(struct spool *spool)
 }
 
 /* Each name has one copy; all but the first have the overlay. */
+_Static_assert(2 * COPIES <= TRESTLEPIP_SEQUENCE_MOST, "the overlay sequence has a pair for each copy");
 static void load_sequence(struct spool *spool)
 {
     uint8_t pairs[2 * COPIES];
@@ -65,29 +66,34 @@ struct legends {
     size_t length;
 };
 
-static void add_legend(struct legends *legends, size_t copy, size_t copies, uint8_t line, uint8_t position, const char *text)
+struct legend {
+    uint8_t copy, copies, line, position;
+    const char *text;
+};
+
+static void add_legend(struct legends *legends, struct legend legend)
 {
     uint8_t *segment = legends->record + legends->length;
-    size_t length = text_to_bytes(text, segment + SEGMENT_NUMBERS, TRESTLEPIP_LINE_CELLS - position);
-    const uint8_t numbers[SEGMENT_NUMBERS] = {(uint8_t)copy, (uint8_t)copies, line, 1, position, (uint8_t)length};
+    size_t length = text_to_bytes(legend.text, segment + SEGMENT_NUMBERS, (size_t)(TRESTLEPIP_LINE_CELLS - legend.position + 1));
+    const uint8_t numbers[SEGMENT_NUMBERS] = {legend.copy, legend.copies, legend.line, 1, legend.position, (uint8_t)length};
     memcpy(segment, numbers, sizeof numbers);
     legends->length += sizeof numbers + length;
 }
 
 static void add_copy_names(struct legends *legends)
 {
-    for (size_t i = 0; i < COPIES; i++)
-        add_legend(legends, i + 1, 1, COPY_LINE, LEGENDS_AT, copy_names[i]);
+    for (uint8_t copy = 1; copy <= COPIES; copy++)
+        add_legend(legends, (struct legend){copy, 1, COPY_LINE, LEGENDS_AT, copy_names[copy - 1]});
 }
 
 /* A load replaces all legends, so they travel in one record, after the table that translates them. */
 static void load_legends(struct spool *spool, const char *date, bool sample)
 {
     struct legends legends = {.length = 0};
-    add_legend(&legends, 1, COPIES, PLACE_LINE, LEGENDS_AT, date);
+    add_legend(&legends, (struct legend){1, COPIES, PLACE_LINE, LEGENDS_AT, date});
     add_copy_names(&legends);
     if (sample)
-        add_legend(&legends, 1, COPIES, SAMPLE_LINE, SAMPLE_AT, "SAMPLE: these weights are not real");
+        add_legend(&legends, (struct legend){1, COPIES, SAMPLE_LINE, SAMPLE_AT, "SAMPLE: these weights are not real"});
     spool_send(spool, TRESTLEPIP_LOAD_COPY_MODIFICATION, legends.record, legends.length);
 }
 
