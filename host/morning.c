@@ -99,5 +99,5 @@ int main(int argc, char **argv)
     free(plan.sheets);
     free(herd.animals);
     free(herd.places);
-    return ending;
+    return (int)ending;
 }
