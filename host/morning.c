@@ -1,53 +1,103 @@
-/* The bureau's spooler for the morning's weighing sheets: one optional argument, the date that is laid over the pages. */
+/* The bureau's spooler for the morning's weighing sheets. The script ./morning has judged its arguments (host/arguments.sh). */
+#define _POSIX_C_SOURCE 200809L
+#include <errno.h>
+#include <signal.h>
+#include <stdlib.h>
 #include <string.h>
-#include <time.h>
+#include <unistd.h>
 
+#include "messages.h"
 #include "morning.h"
 
-enum { DATE_BYTES = 11 };
+struct arguments {
+    const char *file, *date;
+    unsigned only;
+    bool heads;
+};
 
-/* A date is what the calendar writes back the same; so day 30 of February, a sign or a blank is none. */
-static bool is_date(const char *text)
+/* The number of the copy with this name; 0 if there is none. */
+static unsigned copy_of(const char *name)
 {
-    struct tm day = {.tm_hour = 12, .tm_isdst = -1};
-    char again[DATE_BYTES];
-    if (sscanf(text, "%4d-%2d-%2d", &day.tm_year, &day.tm_mon, &day.tm_mday) != 3)
+    for (unsigned i = 0; name && i < COPIES; i++)
+        if (strcmp(copy_names[i], name) == 0)
+            return i + 1;
+    return 0;
+}
+
+/* Takes the options, then FILE and DATE; false if they are not such. */
+static bool take_arguments(struct arguments *arguments, char **argv)
+{
+    bool good = true;
+    for (argv++; good && *argv && strncmp(*argv, "--", 2) == 0; argv++) {
+        bool is_copy = strcmp(*argv, "--copy") == 0;
+        bool is_heads = strcmp(*argv, "--heads") == 0;
+        if (is_copy)
+            arguments->only = copy_of(*++argv);
+        arguments->heads = arguments->heads || is_heads;
+        good = is_heads || (is_copy && arguments->only != 0);
+    }
+    if (!good || !argv[0] || !argv[1] || argv[2])
         return false;
-    day.tm_year -= 1900;
-    day.tm_mon -= 1;
-    return mktime(&day) != (time_t)-1 && strftime(again, sizeof again, "%Y-%m-%d", &day) > 0 && strcmp(again, text) == 0;
+    arguments->file = argv[0];
+    arguments->date = argv[1];
+    return strlen(arguments->date) == DATE_WIDTH;
 }
 
-/* Today's date; no date at all if the clock has none. */
-static const char *today(char *date)
+/* Reads the weights from the file, or from standard input if that is named "-". */
+static enum endings read_weights(struct herd *herd, const char *file)
 {
-    time_t now = time(NULL);
-    const struct tm *local = localtime(&now);
-    return local && strftime(date, DATE_BYTES, "%Y-%m-%d", local) > 0 ? date : "";
+    if (strcmp(file, "-") == 0)
+        return weights_read(herd, stdin, "standard input", stderr);
+    FILE *from = fopen(file, "r");
+    if (!from) {
+        fprintf(stderr, SAYS_NOT_READ, file, strerror(errno));
+        return REFUSED;
+    }
+    enum endings ending = weights_read(herd, from, file, stderr);
+    fclose(from);
+    return ending;
 }
 
-/* A sheet that did not get out counts as much as a refusal. */
-static int finish(struct spool *spool)
+/* A printer takes a form feed between sheets; on a screen an empty line is enough. */
+static enum endings print(const struct arguments *arguments, const struct herd *herd, const struct plan *plan)
 {
-    bool written = fflush(spool->sheets) == 0 && !ferror(spool->sheets);
-    if (!written)
-        fprintf(spool->reports, "the sheets could not be written\n");
-    return written && !spool->refused ? 0 : 1;
+    static struct spool spool;
+    spool.sheets = stdout;
+    spool.reports = stderr;
+    spool.only = arguments->only;
+    spool.heads = arguments->heads;
+    spool.between = isatty(fileno(stdout)) ? "\n" : "\f";
+    spool_start(&spool, FORM_LENGTH);
+    sheets_load(&spool, arguments->date, herd->sample);
+    sheets_print(&spool, herd, plan);
+    return report_end(&spool, plan);
+}
+
+static enum endings run(const struct arguments *arguments, struct herd *herd, struct plan *plan)
+{
+    enum endings ending = read_weights(herd, arguments->file);
+    if (ending != ALL_GOOD)
+        return ending;
+    if (sheets_plan(plan, herd))
+        return print(arguments, herd, plan);
+    fprintf(stderr, SAYS_NO_MEMORY);
+    return STOPPED;
 }
 
 int main(int argc, char **argv)
 {
-    static struct spool spool;
-    char clock_date[DATE_BYTES];
-    const char *date = argc > 1 ? argv[1] : today(clock_date);
-    if (argc > 2 || !is_date(date)) {
-        fprintf(stderr, "usage: morning [YYYY-MM-DD]\n");
-        return 2;
+    struct arguments arguments = {0};
+    struct herd herd = {.allocate = realloc};
+    struct plan plan = {0};
+    if (argc < 1 || !take_arguments(&arguments, argv)) {
+        fprintf(stderr, SAYS_USAGE);
+        return REFUSED;
     }
-    spool.sheets = stdout;
-    spool.reports = stderr;
-    spool_start(&spool, FORM_LENGTH);
-    sheets_load(&spool, date);
-    sheets_print(&spool);
-    return finish(&spool);
+    /* A printer that goes away is a sheet that could not be written. */
+    signal(SIGPIPE, SIG_IGN);
+    enum endings ending = run(&arguments, &herd, &plan);
+    free(plan.sheets);
+    free(herd.animals);
+    free(herd.places);
+    return (int)ending;
 }

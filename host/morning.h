@@ -1,4 +1,7 @@
-/* The morning's spooler: what its files share. spool.c sends commands, text.c turns text into bytes and codes into text, sheets.c has the sheets. */
+/*
+ * The morning's spooler: what its files share. weights.c reads the weights, sheets.c lays them out on sheets, spool.c sends commands to the printer,
+ * show.c writes the copies, report.c the messages; text.c turns text into bytes, and codes into text.
+ */
 #ifndef MORNING_H
 #define MORNING_H
 
@@ -7,24 +10,67 @@
 
 #include "trestlepip.h"
 
-/* The command bytes that the spooler uses. */
-enum commands {
-    WRITE_NO_SPACE = 0x01,
-    SENSE = 0x04,
-    WRITE_SPACE_1 = 0x09,
-    WRITE_SPACE_3 = 0x19,
-    LOAD_LEGENDS = 0x35,
-    LOAD_SEQUENCE = 0x43,
-    LOAD_FORMS = 0x63,
-    LOAD_TABLE = 0x83,
-    CLEAR = 0x87,
-    SKIP_TO_1 = 0x8B,
-    WRITE_SKIP_TO_2 = 0x91
+/* How a run ends. */
+enum endings { ALL_GOOD = 0, STOPPED = 1, REFUSED = 2, HOLD_BACK = 3 };
+
+/* The copies of a sheet, as host/copies.def names them. */
+#define COPY(name) +1
+enum {
+    COPIES = 0
+#include "copies.def"
+};
+#undef COPY
+extern const char *const copy_names[COPIES];
+
+/* The most characters of a place, a tag and a name: the columns of a sheet. A character has up to four bytes in the file. */
+enum { PLACE_WIDTH = 43, TAG_WIDTH = 9, NAME_WIDTH = 18, CHARACTER_BYTES = 4, DATE_WIDTH = 10 };
+
+/* Weights are in tenths of a kilogram. `place` is an index, and `next` that of the next animal in the same place. */
+struct animal {
+    char tag[TAG_WIDTH * CHARACTER_BYTES + 1], name[NAME_WIDTH * CHARACTER_BYTES + 1];
+    unsigned tenths;
+    size_t line, place, next, chained;
 };
 
-enum status_bits { UNIT_EXCEPTION = 0x01, UNIT_CHECK = 0x02 };
+struct place {
+    char title[PLACE_WIDTH * CHARACTER_BYTES + 1];
+    size_t first, last, heads;
+    uint64_t tenths;
+};
 
-/* A printer with all that the host keeps of it: the four buffers lent to every call, one to compose in, and where its output goes. */
+/* All that is read from a file. `allocate` is realloc, except in a test. */
+struct herd {
+    struct animal *animals;
+    struct place *places;
+    size_t animal_count, place_count;
+    bool sample;
+    void *(*allocate)(void *array, size_t bytes);
+};
+
+/* A page of the morning, which comes out in COPIES copies. It begins with the animal of index `first`. */
+struct sheet {
+    const struct place *place;
+    size_t number, page, pages, first, heads;
+    uint64_t tenths;
+    bool held, out;
+};
+
+struct plan {
+    struct sheet *sheets;
+    size_t count;
+};
+
+/* Reads the weights, and reports what is wrong with them: ALL_GOOD, REFUSED, or STOPPED for want of memory. */
+enum endings weights_read(struct herd *herd, FILE *from, const char *file, FILE *reports);
+
+/* Room for one more element: the array, moved if it had to grow; NULL if there is no memory. */
+void *grown(void *(*allocate)(void *array, size_t bytes), void *array, size_t count, size_t size);
+
+/*
+ * A printer with all that the host keeps of it: the four buffers lent to every call, one to compose in, where the output goes and how it is to look.
+ * `only` is the number of the one copy to print, 0 for all. `sheet` is the sheet in work, NULL before the first, `complete` the
+ * number of the latest that is out; `line` and `call` say what is done.
+ */
 struct spool {
     uint8_t state[TRESTLEPIP_STATE_BYTES];
     uint8_t page[TRESTLEPIP_PAGE_BYTES];
@@ -32,8 +78,13 @@ struct spool {
     uint8_t tables[TRESTLEPIP_TABLE_BYTES];
     uint8_t copy[TRESTLEPIP_PAGE_BYTES];
     FILE *sheets, *reports;
-    unsigned sheet;
-    bool refused;
+    const char *between;
+    unsigned only;
+    bool heads, begun, stopped, all_held;
+    struct sheet *sheet;
+    size_t complete;
+    unsigned line;
+    char call[sizeof "command 00"];
 };
 
 /* The lent buffers of a spool, in the order in which every call takes them. */
@@ -42,19 +93,28 @@ struct spool {
 /* Starts the printer on a form of this length; modules 0 and 1 have the same pitch, so that capitals and small letters stand in line. */
 void spool_start(struct spool *spool, uint32_t form);
 
-/* Sends a command and prints the page that it completes. After a refusal nothing more is sent, and the answer is 0. */
-uint64_t spool_send(struct spool *spool, uint8_t command, const uint8_t *record, size_t length);
+/* Sends a command and prints the page that it completes. After a refusal nothing more is sent. */
+void spool_send(struct spool *spool, uint8_t command, const uint8_t *record, size_t length);
 
-/* Shows a composed copy as text: a head line, then its lines up to the last that is not blank. */
-void show_sheet(FILE *to, unsigned sheet, uint64_t answer, const uint8_t *cells);
+/* The same for the weight that fills a sheet: channel 12 has to come with it, and with no other command. */
+void spool_send_last(struct spool *spool, uint8_t command, const uint8_t *record, size_t length);
 
-/* Reports a refusal by its number and its line of the help card, and a load check by its cause too. */
-void report_refusal(FILE *to, uint64_t answer);
+/* Writes the composed copy as text, unless another is the only one wanted: its lines up to the last that is not blank. */
+void show_copy(struct spool *spool, uint64_t answer);
 
-/* Reports three sense bytes, and what data check they tell of. */
-void report_sense(FILE *to, const uint8_t *sense);
+/* Each report says the sheet in work, the line, and the call. */
+void report_refusal(const struct spool *spool, uint64_t answer);
+void report_checks(const struct spool *spool, const uint8_t *sense);
+void report_channel_12(const struct spool *spool, bool came);
+void report_not_written(const struct spool *spool);
 
-/* Text as EBCDIC, cut at `room` bytes; returns the bytes used. A character that the sheets do not have becomes one that cannot be printed. */
+/* Says which sheets are to be held back and, of a job that stopped, which are out. Returns how the run ends. */
+enum endings report_end(const struct spool *spool, const struct plan *plan);
+
+/* How many characters the text has. */
+size_t text_length(const char *text);
+
+/* Text as EBCDIC, a byte a character, cut at `room` bytes; returns the bytes used. What the sheets do not have becomes a byte that cannot be printed. */
 size_t text_to_bytes(const char *text, uint8_t *bytes, size_t room);
 
 /* The spooler's translate table: 256 bytes. */
@@ -63,13 +123,18 @@ void text_table(uint8_t *table);
 /* The character that this table prints by a code. */
 char text_of_code(uint8_t code);
 
+/* The EBCDIC blank. */
+enum { TEXT_BLANK = 0x40 };
+
 /* The sheets' form, five and a half inches in 24ths. */
 enum { FORM_LENGTH = 132 };
 
-/* Loads the forms, the table, the overlay sequence and the legends, which lay this date over each page. */
-void sheets_load(struct spool *spool, const char *date);
+/* Divides the animals of each place into sheets; false if there is no memory. */
+bool sheets_plan(struct plan *plan, const struct herd *herd);
 
-/* Prints the weights of the calf house and of the hive room. */
-void sheets_print(struct spool *spool);
+/* Loads the forms, the table, the overlay sequence and the legends, which lay date and copy name over each page, and SAMPLE if need be. */
+void sheets_load(struct spool *spool, const char *date, bool sample);
+
+void sheets_print(struct spool *spool, const struct herd *herd, const struct plan *plan);
 
 #endif

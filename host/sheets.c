@@ -1,157 +1,260 @@
-/* The morning's sheets: the loads that lay them out, the weights, and the lines that print them. */
+/* The morning's sheets: the plan that divides the animals into sheets, the loads that lay a sheet out, and the lines that print it. */
+#include <inttypes.h>
 #include <string.h>
 
 #include "morning.h"
 
 /*
- * The form: half an inch of margin and six heading lines at 6 lines per inch, then four inches at 8, of which the last half inch is margin. Its
- * printable lines are 1 to 34, the body's from 7. The margin has three bytes, so that the byte of line 1 has index 3.
+ * The form: half an inch of margin and six heading lines at 6 lines per inch, then four inches at 8, of which the last half inch is margin. The margin
+ * above has three bytes, so that the byte of line 1 has index 3.
  */
-enum { HEAD_BYTES = 9, BODY_BYTES = 32, SIX_PER_INCH = 0x00, EIGHT_PER_INCH = 0x10 };
-enum { LINE_INDEX = 2, TITLE_LINE = 1, BODY_LINE = 7, BOTTOM_LINE = 30 };
+enum { MARGIN_ABOVE = 3, HEADING_LINES = 6, BODY_BYTES = 32, MARGIN_BELOW = 4, SIX_PER_INCH = 0x00, EIGHT_PER_INCH = 0x10 };
+enum { HEAD_BYTES = MARGIN_ABOVE + HEADING_LINES, LAST_LINE = HEADING_LINES + BODY_BYTES - MARGIN_BELOW };
+
+/* The lines. Channel 1 is the first; channel 2 the first of the weights; channel 12 the first below them, where the totals begin. */
+enum { PLACE_LINE = 1, COPY_LINE = 2, COLUMNS_LINE = 4, SAMPLE_LINE = 5, BODY_LINE = HEADING_LINES + 1, TOTALS_LINE = 30, TOTALS_LINES = 3 };
+enum { TOP = 1, BODY = 2, BOTTOM = 12, WEIGHTS_PER_SHEET = TOTALS_LINE - BODY_LINE };
+_Static_assert(COLUMNS_LINE < SAMPLE_LINE && SAMPLE_LINE < BODY_LINE, "the legend SAMPLE lies over blanks");
+_Static_assert(TOTALS_LINE + TOTALS_LINES <= LAST_LINE, "the space after the totals stays on the sheet");
+
+/*
+ * The positions. A weight and a total end where the figures end; beside a total stands its head count. A figure of 64 bits has up to 20 digits and a
+ * point, a count up to 20 digits.
+ */
+enum { TAG_AT = 1, NAME_AT = 11, FIGURES_END = 36, COUNT_AT = 39, LEGENDS_AT = 45, SAMPLE_AT = 1 };
+enum { WEIGHT_WIDTH = 6, RULE_WIDTH = 8, LABEL_WIDTH = sizeof "Sheet total" - 1, COUNT_WIDTH = 20, FIGURE_WIDTH = 21, LINE_WIDTH = 64 };
+_Static_assert(PLACE_WIDTH + 1 < LEGENDS_AT, "a blank stands between the place and the date");
+_Static_assert(TAG_AT + TAG_WIDTH < NAME_AT, "a blank stands between the tag and the name");
+_Static_assert(NAME_AT + NAME_WIDTH < FIGURES_END - WEIGHT_WIDTH + 1, "a blank stands between the name and the weight");
+_Static_assert(LABEL_WIDTH < FIGURES_END - FIGURE_WIDTH && FIGURES_END < COUNT_AT, "a total has room beside its label and its count");
+_Static_assert(COUNT_AT + COUNT_WIDTH + (int)sizeof " head" - 1 <= LINE_WIDTH, "a count has room on the line");
 
 static void load_forms(struct spool *spool)
 {
-    uint8_t forms[HEAD_BYTES + BODY_BYTES];
+    uint8_t forms[HEAD_BYTES + BODY_BYTES], *before_line_1 = forms + MARGIN_ABOVE - 1;
     memset(forms, SIX_PER_INCH, HEAD_BYTES);
     memset(forms + HEAD_BYTES, EIGHT_PER_INCH, BODY_BYTES);
-    forms[LINE_INDEX + TITLE_LINE] |= 1;
-    forms[LINE_INDEX + BODY_LINE] |= 2;
-    /* Channel 12 tells the end of the sheet and leaves the lines below it for a total. */
-    forms[LINE_INDEX + BOTTOM_LINE] |= 12;
-    spool_send(spool, LOAD_FORMS, forms, sizeof forms);
+    before_line_1[PLACE_LINE] |= TOP;
+    before_line_1[BODY_LINE] |= BODY;
+    before_line_1[TOTALS_LINE] |= BOTTOM;
+    spool_send(spool, TRESTLEPIP_LOAD_FCB, forms, sizeof forms);
 }
 
 static void load_table(struct spool *spool)
 {
     uint8_t table[256];
     text_table(table);
-    spool_send(spool, LOAD_TABLE, table, sizeof table);
+    spool_send(spool, TRESTLEPIP_LOAD_TABLE, table, sizeof table);
 }
 
+/* Each name has one copy; all but the first have the overlay. */
+_Static_assert(2 * COPIES <= TRESTLEPIP_SEQUENCE_MOST, "the overlay sequence has a pair for each copy");
 static void load_sequence(struct spool *spool)
 {
-    static const uint8_t pairs[] = {1, 0, 1, 1};
-    spool_send(spool, LOAD_SEQUENCE, pairs, sizeof pairs);
+    uint8_t pairs[2 * COPIES];
+    for (size_t i = 0; i < COPIES; i++) {
+        pairs[2 * i] = 1;
+        pairs[2 * i + 1] = i > 0;
+    }
+    spool_send(spool, TRESTLEPIP_LOAD_OVERLAY_SEQUENCE, pairs, sizeof pairs);
 }
+
+/* The record of the legends as it grows, a segment of one line each. */
+enum { SEGMENT_NUMBERS = 6, LEGENDS_MOST = (SEGMENT_NUMBERS + TRESTLEPIP_LINE_CELLS) * (COPIES + 2) };
+struct legends {
+    uint8_t record[LEGENDS_MOST];
+    size_t length;
+};
 
 struct legend {
     uint8_t copy, copies, line, position;
     const char *text;
 };
 
-/* Appends a segment of one line: its six numbers and its text. Returns the bytes used. */
-static size_t put_segment(uint8_t *record, size_t room, const struct legend *legend)
+static void add_legend(struct legends *legends, struct legend legend)
 {
-    size_t length = text_to_bytes(legend->text, record + 6, room - 6);
-    const uint8_t numbers[6] = {legend->copy, legend->copies, legend->line, 1, legend->position, (uint8_t)length};
-    memcpy(record, numbers, sizeof numbers);
-    return sizeof numbers + length;
+    uint8_t *segment = legends->record + legends->length;
+    size_t length = text_to_bytes(legend.text, segment + SEGMENT_NUMBERS, (size_t)(TRESTLEPIP_LINE_CELLS - legend.position + 1));
+    const uint8_t numbers[SEGMENT_NUMBERS] = {legend.copy, legend.copies, legend.line, 1, legend.position, (uint8_t)length};
+    memcpy(segment, numbers, sizeof numbers);
+    legends->length += sizeof numbers + length;
 }
 
-/* The segments go by copy number, and a load replaces all legends, so they travel in one record, after the table that translates them. */
-static void load_legends(struct spool *spool, const char *date)
+static void add_copy_names(struct legends *legends)
 {
-    const struct legend legends[] = {{1, 2, 1, 45, date}, {1, 1, 2, 45, "Feed store"}, {2, 1, 2, 45, "Owner"}};
-    uint8_t record[3 * (6 + 10)];
-    size_t length = 0;
-    for (size_t i = 0; i < sizeof legends / sizeof *legends; i++)
-        length += put_segment(record + length, sizeof record - length, &legends[i]);
-    spool_send(spool, LOAD_LEGENDS, record, length);
+    for (uint8_t copy = 1; copy <= COPIES; copy++)
+        add_legend(legends, (struct legend){copy, 1, COPY_LINE, LEGENDS_AT, copy_names[copy - 1]});
 }
 
-void sheets_load(struct spool *spool, const char *date)
+/* A load replaces all legends, so they travel in one record, after the table that translates them. */
+static void load_legends(struct spool *spool, const char *date, bool sample)
+{
+    struct legends legends = {.length = 0};
+    add_legend(&legends, (struct legend){1, COPIES, PLACE_LINE, LEGENDS_AT, date});
+    add_copy_names(&legends);
+    if (sample)
+        add_legend(&legends, (struct legend){1, COPIES, SAMPLE_LINE, SAMPLE_AT, "SAMPLE: these weights are not real"});
+    spool_send(spool, TRESTLEPIP_LOAD_COPY_MODIFICATION, legends.record, legends.length);
+}
+
+void sheets_load(struct spool *spool, const char *date, bool sample)
 {
     load_forms(spool);
     load_table(spool);
     load_sequence(spool);
-    load_legends(spool, date);
+    load_legends(spool, date, sample);
 }
 
-/* Weights are in tenths of a kilogram. */
-struct weight {
-    const char *tag, *name;
-    unsigned tenths;
-};
-
-struct place {
-    const char *title, *heads;
-    const struct weight *weights;
-    size_t count;
-};
-
-static const struct weight calves[] = {
-    {"0412", "Anemone", 1184}, {"0413", "Barley", 1092}, {"0415", "Bramble", 1127}, {"0416", "Burdock", 986}, {"0418", "Campion", 1041},
-    {"0419", "Clover", 1203}, {"0421", "Comfrey", 934}, {"0422", "Cowslip", 1018}, {"0424", "Daisy", 897}, {"0425", "Damson", 1066},
-    {"0427", "Fennel", 879}, {"0428", "Foxglove", 953}, {"0430", "Gorse", 842}, {"0431", "Hazel", 1009}, {"0433", "Heather", 817},
-    {"0434", "Juniper", 925}, {"0436", "Lavender", 788}, {"0437", "Linden", 861}, {"0439", "Mallow", 746}, {"0440", "Marigold", 803},
-    {"0442", "Mayweed", 729}, {"0443", "Meadow", 838}, {"0445", "Nettle", 694}, {"0446", "Pansy", 757}, {"0448", "Plantain", 668},
-    {"0449", "Primrose", 715}, {"0451", "Sorrel", 642}, {"0452", "Speedwell", 691}, {"0454", "Tansy", 587}, {"0455", "Teasel", 631},
-    {"0457", "Thistle", 553}, {"0458", "Yarrow", 498},
-};
-
-static const struct weight hives[] = {
-    {"H-01", "South wall", 384}, {"H-02", "South wall", 412}, {"H-03", "By the door", 357}, {"H-04", "By the door", 298},
-    {"H-05", "Long bench", 441}, {"H-06", "Long bench", 405}, {"H-07", "Long bench", 329}, {"H-08", "Window", 376},
-};
-
-static const struct place places[] = {
-    {"Calf house: weights before feeding", "Tag       Name                    kg", calves, sizeof calves / sizeof *calves},
-    {"Hive room: weights before feeding", "Hive      Place                   kg", hives, sizeof hives / sizeof *hives},
-};
-
-enum { TEXT_BYTES = 64 };
-
-static uint64_t write_text(struct spool *spool, uint8_t command, const char *text)
+/* Fills a sheet with the next animals of its place; returns the index of the one after them. */
+static size_t fill_sheet(struct sheet *sheet, const struct herd *herd, size_t left)
 {
-    uint8_t record[TRESTLEPIP_LINE_CELLS];
-    return spool_send(spool, command, record, text_to_bytes(text, record, sizeof record));
-}
-
-static uint64_t write_weight(struct spool *spool, uint8_t command, const char *tag, const char *name, unsigned tenths)
-{
-    char text[TEXT_BYTES];
-    snprintf(text, sizeof text, "%-10s%-16s%8u.%u", tag, name, tenths / 10, tenths % 10);
-    return write_text(spool, command, text);
-}
-
-/* The heading; its last line skips to channel 2, the first line of the body. */
-static void write_heading(struct spool *spool, const struct place *place)
-{
-    write_text(spool, WRITE_SPACE_3, place->title);
-    write_text(spool, WRITE_SKIP_TO_2, place->heads);
-}
-
-/* Each weight a line; when the one before it came to channel 12, it goes on the next sheet. Returns the total. */
-static unsigned write_weights(struct spool *spool, const struct place *place)
-{
-    unsigned total = 0;
-    uint64_t answer = 0;
-    for (const struct weight *w = place->weights; w < place->weights + place->count; w++) {
-        if (trestlepip_status(answer) & UNIT_EXCEPTION) {
-            spool_send(spool, SKIP_TO_1, NULL, 0);
-            write_heading(spool, place);
-        }
-        answer = write_weight(spool, WRITE_SPACE_1, w->tag, w->name, w->tenths);
-        total += w->tenths;
+    size_t at = sheet->first;
+    for (; sheet->heads < WEIGHTS_PER_SHEET && sheet->heads < left; sheet->heads++) {
+        sheet->tenths += herd->animals[at].tenths;
+        at = herd->animals[at].next;
     }
-    return total;
+    return at;
 }
 
-/* A rule under the weights; then the total, written without spacing, and underscores over it, which show where it is blank. */
-static void write_total(struct spool *spool, unsigned total)
+/* Adds a place's sheets to the plan; false if there is no memory. */
+static bool plan_place(struct plan *plan, const struct herd *herd, const struct place *place)
 {
-    write_text(spool, WRITE_SPACE_1, "                            ________");
-    write_weight(spool, WRITE_NO_SPACE, "Total", "", total);
-    write_text(spool, WRITE_SPACE_1, "____________________________________");
+    size_t pages = (place->heads + WEIGHTS_PER_SHEET - 1) / WEIGHTS_PER_SHEET, first = place->first;
+    for (size_t page = 1; page <= pages; page++) {
+        struct sheet *sheets = grown(herd->allocate, plan->sheets, plan->count, sizeof *sheets);
+        if (!sheets)
+            return false;
+        plan->sheets = sheets;
+        sheets[plan->count] = (struct sheet){.place = place, .number = plan->count + 1, .page = page, .pages = pages, .first = first};
+        first = fill_sheet(&sheets[plan->count++], herd, place->heads - (page - 1) * WEIGHTS_PER_SHEET);
+    }
+    return true;
 }
 
-/* Clear ends the sheet of the place before, and does nothing on one that is not started; at the end it ends the last. */
-void sheets_print(struct spool *spool)
+bool sheets_plan(struct plan *plan, const struct herd *herd)
 {
-    for (size_t i = 0; i < sizeof places / sizeof *places; i++) {
-        write_heading(spool, &places[i]);
-        write_total(spool, write_weights(spool, &places[i]));
-        spool_send(spool, CLEAR, NULL, 0);
+    bool planned = true;
+    for (size_t i = 0; planned && i < herd->place_count; i++)
+        planned = plan_place(plan, herd, &herd->places[i]);
+    return planned;
+}
+
+/* A line as it is laid out: blanks, and texts at their positions. */
+struct layout {
+    uint8_t bytes[LINE_WIDTH];
+};
+
+static struct layout blank_line(void)
+{
+    struct layout line;
+    memset(line.bytes, TEXT_BLANK, sizeof line.bytes);
+    return line;
+}
+
+static void put(struct layout *line, size_t position, const char *text)
+{
+    text_to_bytes(text, line->bytes + position - 1, LINE_WIDTH - (position - 1));
+}
+
+static void put_figure(struct layout *line, uint64_t tenths)
+{
+    char text[FIGURE_WIDTH + 1];
+    int length = snprintf(text, sizeof text, "%" PRIu64 ".%" PRIu64, tenths / 10, tenths % 10);
+    put(line, (size_t)(FIGURES_END - length + 1), text);
+}
+
+static void write_line(struct spool *spool, uint8_t command, const struct layout *line)
+{
+    spool_send(spool, command, line->bytes, sizeof line->bytes);
+}
+
+static void write_text(struct spool *spool, uint8_t command, const char *text)
+{
+    struct layout line = blank_line();
+    put(&line, TAG_AT, text);
+    write_line(spool, command, &line);
+}
+
+/* The heading; its last line skips to the first line of the body. */
+static void write_heading(struct spool *spool)
+{
+    const struct sheet *sheet = spool->sheet;
+    char page[LINE_WIDTH];
+    struct layout heads = blank_line();
+    snprintf(page, sizeof page, "page %zu of %zu", sheet->page, sheet->pages);
+    put(&heads, TAG_AT, "Tag");
+    put(&heads, NAME_AT, "Name");
+    put(&heads, FIGURES_END - 1, "kg");
+    write_text(spool, TRESTLEPIP_WRITE_SPACE_1, sheet->place->title);
+    write_text(spool, TRESTLEPIP_WRITE_SPACE_1, "Weights before feeding");
+    write_text(spool, TRESTLEPIP_WRITE_SPACE_1, page);
+    write_line(spool, TRESTLEPIP_WRITE_SKIP(BODY), &heads);
+}
+
+static struct layout weight_line(const struct animal *animal)
+{
+    struct layout line = blank_line();
+    put(&line, TAG_AT, animal->tag);
+    put(&line, NAME_AT, animal->name);
+    put_figure(&line, animal->tenths);
+    return line;
+}
+
+/* Each weight a line. The one that fills the sheet comes to channel 12, and a sheet that is not full skips there. */
+static void write_weights(struct spool *spool, const struct herd *herd)
+{
+    const struct sheet *sheet = spool->sheet;
+    size_t at = sheet->first;
+    for (size_t n = 1; n <= sheet->heads; n++, at = herd->animals[at].next) {
+        const struct layout line = weight_line(&herd->animals[at]);
+        if (n == WEIGHTS_PER_SHEET)
+            spool_send_last(spool, TRESTLEPIP_WRITE_SPACE_1, line.bytes, sizeof line.bytes);
+        else
+            write_line(spool, n < sheet->heads ? TRESTLEPIP_WRITE_SPACE_1 : TRESTLEPIP_WRITE_SKIP(BOTTOM), &line);
+    }
+}
+
+static struct layout rule(size_t first)
+{
+    struct layout line = blank_line();
+    for (size_t position = first; position <= FIGURES_END; position++)
+        put(&line, position, "_");
+    return line;
+}
+
+/* A total, written without spacing, and underscores over it, which show where it is blank. */
+static void write_total(struct spool *spool, const char *label, size_t heads, uint64_t tenths)
+{
+    char count[COUNT_WIDTH + sizeof " head"];
+    struct layout line = blank_line();
+    const struct layout under = rule(TAG_AT);
+    snprintf(count, sizeof count, "%zu head", heads);
+    put(&line, TAG_AT, label);
+    put_figure(&line, tenths);
+    put(&line, COUNT_AT, count);
+    write_line(spool, TRESTLEPIP_WRITE_NO_SPACE, &line);
+    write_line(spool, TRESTLEPIP_WRITE_SPACE_1, &under);
+}
+
+/* A rule under the weights, the sheet's total, and on the last of several sheets the place's. */
+static void write_totals(struct spool *spool)
+{
+    const struct sheet *sheet = spool->sheet;
+    const struct layout above = rule(FIGURES_END - RULE_WIDTH + 1);
+    write_line(spool, TRESTLEPIP_WRITE_SPACE_1, &above);
+    write_total(spool, "Sheet total", sheet->heads, sheet->tenths);
+    if (sheet->pages > 1 && sheet->page == sheet->pages)
+        write_total(spool, "Place total", sheet->place->heads, sheet->place->tenths);
+}
+
+/* Clear ends the sheet, and the next begins on line 1. */
+void sheets_print(struct spool *spool, const struct herd *herd, const struct plan *plan)
+{
+    for (size_t i = 0; i < plan->count && !spool->stopped; i++) {
+        spool->sheet = &plan->sheets[i];
+        write_heading(spool);
+        write_weights(spool, herd);
+        write_totals(spool);
+        spool_send(spool, TRESTLEPIP_CLEAR, NULL, 0);
     }
 }

@@ -1,29 +1,62 @@
-/* The printer as the spooler drives it: each answer is looked at, refusals and unit checks are reported, completed pages printed and released. */
+/* The printer as the spooler drives it: each answer is looked at, refusals and checks are reported, completed pages printed and released. */
 #include <string.h>
 
 #include "morning.h"
 
-static bool accepted(uint64_t answer)
+static bool is_accepted(uint64_t answer)
 {
     return trestlepip_number(answer) == TRESTLEPIP_ACCEPTED;
 }
 
-/* Every refusal's remedy is to correct what was sent, and a sheet with a line missing is worse than none: the job stops. */
-static void refuse(struct spool *spool, uint64_t answer)
+/* Notes what is done and on which line, for a report. */
+static void begin_call(struct spool *spool, const char *call)
 {
-    report_refusal(spool->reports, answer);
-    spool->refused = true;
+    spool->line = spool->state[TRESTLEPIP_AT_LINE];
+    strcpy(spool->call, call);
+}
+
+static void begin_command(struct spool *spool, uint8_t command)
+{
+    spool->line = spool->state[TRESTLEPIP_AT_LINE];
+    snprintf(spool->call, sizeof spool->call, "command %02X", command);
+}
+
+/* A sheet with a line missing is worse than none: a refusal stops the job. */
+static void stop_if_refused(struct spool *spool, uint64_t answer)
+{
+    if (is_accepted(answer))
+        return;
+    report_refusal(spool, answer);
+    spool->stopped = true;
+}
+
+/* What goes wrong in the loads is on every sheet. */
+static void hold_back(struct spool *spool)
+{
+    if (spool->sheet)
+        spool->sheet->held = true;
+    else
+        spool->all_held = true;
 }
 
 /* The sense is read at once: the next command sets it anew. */
 static void read_sense(struct spool *spool)
 {
-    uint8_t sense[TRESTLEPIP_SENSE_BYTES];
-    uint64_t answer = trestlepip_command(SENSE, NULL, 0, sense, sizeof sense, STORES(spool));
-    if (accepted(answer))
-        report_sense(spool->reports, sense);
-    else
-        refuse(spool, answer);
+    uint8_t sense[TRESTLEPIP_SENSE_BYTES] = {0};
+    uint64_t answer = trestlepip_command(TRESTLEPIP_SENSE, NULL, 0, sense, sizeof sense, STORES(spool));
+    report_checks(spool, sense);
+    hold_back(spool);
+    stop_if_refused(spool, answer);
+}
+
+/* Channel 12 stands where the weights of a sheet end, and a space alone tells of it: elsewhere the printer's lines are not those of the plan. */
+static void check_channel_12(struct spool *spool, uint64_t answer, bool is_due)
+{
+    bool came = (trestlepip_status(answer) & TRESTLEPIP_STATUS_UNIT_EXCEPTION) != 0;
+    if (came == is_due)
+        return;
+    report_channel_12(spool, came);
+    hold_back(spool);
 }
 
 /* Bytes after the form's last line stay as they are, so they are made blank first. */
@@ -36,40 +69,64 @@ static uint64_t compose(struct spool *spool, uint32_t index)
 static void print_copies(struct spool *spool)
 {
     uint64_t answer;
-    for (uint32_t index = 1; accepted(answer = compose(spool, index)); index++)
-        show_sheet(spool->sheets, ++spool->sheet, answer, spool->copy);
+    for (uint32_t index = 1; is_accepted(answer = compose(spool, index)); index++)
+        show_copy(spool, answer);
     if (trestlepip_number(answer) != TRESTLEPIP_BAD_INDEX)
-        refuse(spool, answer);
+        stop_if_refused(spool, answer);
 }
 
-/* A page is released only when all its copies are out. */
+static void flush_sheets(struct spool *spool)
+{
+    if (fflush(spool->sheets) == 0 && !ferror(spool->sheets))
+        return;
+    report_not_written(spool);
+    spool->stopped = true;
+}
+
+/* A page is released only when all its copies are out; one that stopped between them is to be held back. */
 static void print_page(struct spool *spool)
 {
+    spool->sheet->out = true;
+    begin_call(spool, "compose");
     print_copies(spool);
-    if (spool->refused)
+    flush_sheets(spool);
+    if (spool->stopped) {
+        hold_back(spool);
         return;
-    uint64_t answer = trestlepip_release(STORES(spool));
-    if (!accepted(answer))
-        refuse(spool, answer);
+    }
+    spool->complete = spool->sheet->number;
+    begin_call(spool, "release");
+    stop_if_refused(spool, trestlepip_release(STORES(spool)));
 }
 
 void spool_start(struct spool *spool, uint32_t form)
 {
-    uint64_t answer = trestlepip_start(form, 10, 10, 12, 15, STORES(spool));
-    if (!accepted(answer))
-        refuse(spool, answer);
+    begin_call(spool, "start");
+    stop_if_refused(spool, trestlepip_start(form, 10, 10, 12, 15, STORES(spool)));
 }
 
-uint64_t spool_send(struct spool *spool, uint8_t command, const uint8_t *record, size_t length)
+static void send(struct spool *spool, bool is_last, uint8_t command, const uint8_t *record, size_t length)
 {
-    if (spool->refused)
-        return 0;
+    if (spool->stopped)
+        return;
+    begin_command(spool, command);
     uint64_t answer = trestlepip_command(command, record, length, NULL, 0, STORES(spool));
-    if (!accepted(answer))
-        refuse(spool, answer);
-    if (trestlepip_status(answer) & UNIT_CHECK)
+    stop_if_refused(spool, answer);
+    if (spool->stopped)
+        return;
+    check_channel_12(spool, answer, is_last);
+    if (trestlepip_status(answer) & TRESTLEPIP_STATUS_UNIT_CHECK)
         read_sense(spool);
-    if (trestlepip_ready(answer))
+    if (trestlepip_ready(answer) && !spool->stopped)
         print_page(spool);
-    return answer;
+}
+
+void spool_send(struct spool *spool, uint8_t command, const uint8_t *record, size_t length)
+{
+    send(spool, false, command, record, length);
+}
+
+void spool_send_last(struct spool *spool, uint8_t command, const uint8_t *record, size_t length)
+{
+    send(spool, true, command, record, length);
 }

@@ -1,10 +1,14 @@
-/* Provokes each refusal and each cause that a host can provoke, and holds the report to the row of the help card, whose path is the argument. */
+/*
+ * Provokes each refusal and each cause that a host can provoke, each check, and want of memory, and holds the reports to the texts of docs/NUMBERS.md,
+ * whose path is the argument. All reports go to standard error too, for host/test_morning.
+ */
 #include <stdlib.h>
 #include <string.h>
 
+#include "messages.h"
 #include "morning.h"
 
-enum { ROOM = 1024, FORM = 84, NUMBERS = 10, CAUSES = 10 };
+enum { ROOM = 1024, FORM = 84, LISTED_NUMBERS = 10, LISTED_CAUSES = 10 };
 
 static unsigned failures;
 
@@ -12,63 +16,103 @@ static void check(bool good, const char *what, unsigned number)
 {
     if (good)
         return;
-    fprintf(stderr, "test_refusals: %s %u\n", what, number);
+    printf("test_refusals: %s %u\n", what, number);
     failures++;
 }
 
-/* A printer as after Start, whose reports go to a file that can be read back. */
-static void begin(struct spool *spool)
+static FILE *scratch(void)
 {
-    memset(spool, 0, sizeof *spool);
-    spool->sheets = stdout;
-    spool->reports = tmpfile();
-    if (!spool->reports) {
+    FILE *file = tmpfile();
+    if (!file) {
         perror("test_refusals");
         exit(2);
     }
-    spool_start(spool, FORM);
+    return file;
 }
 
-static uint64_t command(struct spool *spool, uint8_t byte, const uint8_t *record, size_t length)
+/* Reads back what was written to a file, as one string, and closes it. */
+static const char *written(FILE *file)
 {
-    return trestlepip_command(byte, record, length, NULL, 0, STORES(spool));
+    static char text[ROOM];
+    rewind(file);
+    text[fread(text, 1, ROOM - 1, file)] = '\0';
+    fclose(file);
+    return text;
 }
 
-/* Leaves a completed page waiting: a moved form, and Clear. */
-static void complete_page(struct spool *spool)
+/* A sheet in work, and the printer that it is printed on. */
+static const struct place calf_house = {.title = "Calf house"};
+static struct sheet sheet;
+static const struct plan plan = {&sheet, 1};
+static struct spool spool;
+
+/* A printer as after Start, before any sheet, whose output can be read back. */
+static void begin(uint32_t form)
 {
-    command(spool, WRITE_SPACE_1, (const uint8_t *)"\xC1", 1);
-    command(spool, CLEAR, NULL, 0);
+    sheet = (struct sheet){.place = &calf_house, .number = 7, .page = 2, .pages = 3};
+    memset(&spool, 0, sizeof spool);
+    spool.sheets = scratch();
+    spool.reports = scratch();
+    spool_start(&spool, form);
 }
 
-static uint64_t provoke(struct spool *spool, unsigned number)
+/* Ends the run, and looks for a line among its reports. */
+static void end(enum endings ending, const char *line, const char *what, unsigned number)
 {
-    static const uint8_t letter[] = {0xC1}, pair[] = {1, 0};
+    enum endings ended = report_end(&spool, &plan);
+    const char *text = written(spool.reports);
+    fputs(text, stderr);
+    check(ended == ending, "wrong ending after", number);
+    check(strstr(text, line) != NULL, what, number);
+    fclose(spool.sheets);
+}
+
+static const uint8_t letter[] = {0xC1}, other_letter[] = {0xC2}, no_letter[] = {0x3F}, pair[] = {1, 0};
+
+/* Leaves a completed page waiting, behind the spooler's back. */
+static void complete_page(void)
+{
+    trestlepip_command(TRESTLEPIP_WRITE_SPACE_1, letter, sizeof letter, NULL, 0, STORES(&spool));
+    trestlepip_command(TRESTLEPIP_CLEAR, NULL, 0, NULL, 0, STORES(&spool));
+}
+
+/* Numbers 6 and 7 cannot come by the spooler's way, which stops at neither; the calls are made beside it. */
+static void provoke(unsigned number)
+{
     switch (number) {
     case TRESTLEPIP_NOT_LISTED:
-        return command(spool, 0x00, NULL, 0);
+        spool_send(&spool, 0x00, NULL, 0);
+        break;
     case TRESTLEPIP_BAD_RECORD:
-        return command(spool, WRITE_NO_SPACE, NULL, 0);
+        spool_send(&spool, TRESTLEPIP_WRITE_NO_SPACE, NULL, 0);
+        break;
     case TRESTLEPIP_LOAD_CHECK:
-        return command(spool, LOAD_SEQUENCE, NULL, 0);
+        spool_send(&spool, TRESTLEPIP_LOAD_OVERLAY_SEQUENCE, NULL, 0);
+        break;
     case TRESTLEPIP_PAGE_WAITING:
-        complete_page(spool);
-        return command(spool, CLEAR, NULL, 0);
+        complete_page();
+        spool_send(&spool, TRESTLEPIP_CLEAR, NULL, 0);
+        break;
     case TRESTLEPIP_PAGE_STARTED:
-        command(spool, WRITE_NO_SPACE, letter, sizeof letter);
-        return command(spool, LOAD_SEQUENCE, pair, sizeof pair);
+        spool_send(&spool, TRESTLEPIP_WRITE_NO_SPACE, letter, sizeof letter);
+        spool_send(&spool, TRESTLEPIP_LOAD_OVERLAY_SEQUENCE, pair, sizeof pair);
+        break;
     case TRESTLEPIP_NO_PAGE:
-        return trestlepip_release(STORES(spool));
+        report_refusal(&spool, trestlepip_release(STORES(&spool)));
+        break;
     case TRESTLEPIP_BAD_INDEX:
-        complete_page(spool);
-        return trestlepip_compose(2, spool->copy, sizeof spool->copy, STORES(spool));
+        complete_page();
+        report_refusal(&spool, trestlepip_compose(2, spool.copy, sizeof spool.copy, STORES(&spool)));
+        break;
     case TRESTLEPIP_TOO_SHORT:
-        return command(spool, SENSE, NULL, 0);
+        spool_send(&spool, TRESTLEPIP_SENSE, NULL, 0);
+        break;
     case TRESTLEPIP_BAD_STORE:
-        memset(spool->state, 0, sizeof spool->state);
-        return command(spool, CLEAR, NULL, 0);
+        memset(spool.state, 0, sizeof spool.state);
+        spool_send(&spool, TRESTLEPIP_CLEAR, NULL, 0);
+        break;
     default:
-        return trestlepip_start(100, 10, 10, 10, 10, STORES(spool));
+        spool_start(&spool, 100);
     }
 }
 
@@ -77,100 +121,199 @@ static const struct {
     uint8_t command;
     size_t length;
     uint8_t record[256];
-} faults[] = {
-    {LOAD_FORMS, 21, {0, 0, 0, 0x0D}},
-    {LOAD_FORMS, 20, {0}},
-    {LOAD_FORMS, 18, {0}},
-    {LOAD_FORMS, 21, {1}},
-    {LOAD_TABLE, 255, {0}},
-    {LOAD_SEQUENCE, 3, {1, 0, 1}},
-    {LOAD_SEQUENCE, 2, {0, 0}},
-    {0x23, 1, {0}},
-    {LOAD_LEGENDS, 7, {1, 1, 1, 1, 1, 2, 0xC1}},
-    {LOAD_LEGENDS, 7, {1, 1, 1, 1, 0xCD, 1, 0xC1}},
+} faults[LISTED_CAUSES] = {
+    {TRESTLEPIP_LOAD_FCB, 21, {0, 0, 0, 0x0D}},
+    {TRESTLEPIP_LOAD_FCB, 20, {0}},
+    {TRESTLEPIP_LOAD_FCB, 18, {0}},
+    {TRESTLEPIP_LOAD_FCB, 21, {1}},
+    {TRESTLEPIP_LOAD_TABLE, 255, {0}},
+    {TRESTLEPIP_LOAD_OVERLAY_SEQUENCE, 3, {1, 0, 1}},
+    {TRESTLEPIP_LOAD_OVERLAY_SEQUENCE, 2, {0, 0}},
+    {TRESTLEPIP_LOAD_COPY_NUMBER, 1, {0}},
+    {TRESTLEPIP_LOAD_COPY_MODIFICATION, 7, {1, 1, 1, 1, 1, 2, 0xC1}},
+    {TRESTLEPIP_LOAD_COPY_MODIFICATION, 7, {1, 1, 1, 1, 0xCD, 1, 0xC1}},
 };
 
-/* Reads back what was reported, as one string. */
-static const char *reported(struct spool *spool)
+/* Reads the page up to the row that begins so; the row stays empty if there is none. */
+static void find_row(FILE *page, const char *beginning, char *row)
 {
-    static char text[ROOM];
-    rewind(spool->reports);
-    text[fread(text, 1, ROOM - 1, spool->reports)] = '\0';
-    return text;
-}
-
-/* Reads the card up to the row that begins so; the row stays empty if there is none. */
-static void find_row(FILE *card, const char *beginning, char *row)
-{
-    while (fgets(row, ROOM, card))
+    while (fgets(row, ROOM, page))
         if (strncmp(row, beginning, strlen(beginning)) == 0)
             return;
     row[0] = '\0';
 }
 
-/* The card's row of this table and number, in the words of a report. */
-static void expected(FILE *card, const char *table, const char *word, unsigned number, char *text)
+/* The text that a row of this table has, after these words, as the end of a report. */
+static void expect(FILE *page, const char *table, const char *row_name, const char *words, char *line)
 {
     char beginning[ROOM], row[ROOM];
-    rewind(card);
-    find_row(card, table, row);
-    snprintf(beginning, sizeof beginning, "| %u | ", number);
-    find_row(card, beginning, row);
-    char *means = row + (row[0] ? strlen(beginning) : 0), *bar = strstr(means, " | ");
-    char *todo = bar ? bar + 3 : means, *end = strstr(todo, " |");
-    snprintf(text, ROOM, "%s %u: %.*s %.*s\n", word, number, (int)(bar ? bar - means : 0), means, (int)(end ? end - todo : 0), todo);
+    rewind(page);
+    find_row(page, table, row);
+    snprintf(beginning, sizeof beginning, "| %s | ", row_name);
+    find_row(page, beginning, row);
+    const char *text = row + (row[0] ? strlen(beginning) : 0), *bar = strstr(text, " | ");
+    snprintf(line, ROOM, "%s %s, %.*s", words, row_name, (int)(bar ? bar - text : 0), text);
 }
 
-static void check_number(struct spool *spool, FILE *card, unsigned number)
+static void check_number(FILE *page, unsigned number)
 {
-    char line[ROOM];
-    begin(spool);
-    uint64_t answer = provoke(spool, number);
-    check(trestlepip_number(answer) == number, "not provoked: number", number);
-    report_refusal(spool->reports, answer);
-    expected(card, "| Number |", "refusal", number, line);
-    check(strncmp(reported(spool), line, strlen(line)) == 0, "not reported as on the card: number", number);
-    fclose(spool->reports);
+    char name[4], line[ROOM];
+    snprintf(name, sizeof name, "%u", number % 100);
+    expect(page, "| Number |", name, ": refusal", line);
+    begin(FORM);
+    provoke(number);
+    check(spool.stopped || number == TRESTLEPIP_NO_PAGE || number == TRESTLEPIP_BAD_INDEX, "the job went on after refusal", number);
+    spool.stopped = true;
+    end(STOPPED, line, "not reported as on the page: refusal", number);
 }
 
-/* A load goes by the spool's own way, which reports the refusal and then the sense. */
-static void check_cause(struct spool *spool, FILE *card, unsigned cause)
+static void check_cause(FILE *page, unsigned cause)
 {
-    char line[ROOM];
-    begin(spool);
-    uint64_t answer = spool_send(spool, faults[cause - 1].command, faults[cause - 1].record, faults[cause - 1].length);
-    check(trestlepip_cause(answer) == cause, "not provoked: cause", cause);
-    expected(card, "| Cause |", "cause", cause, line);
-    check(strstr(reported(spool), line) != NULL, "not reported as on the card: cause", cause);
-    check(spool->refused && spool_send(spool, CLEAR, NULL, 0) == 0, "the job went on after cause", cause);
-    fclose(spool->reports);
+    char name[4], line[ROOM];
+    snprintf(name, sizeof name, "%u", cause % 100);
+    expect(page, "| Cause |", name, ", cause", line);
+    begin(FORM);
+    spool_send(&spool, faults[cause - 1].command, faults[cause - 1].record, faults[cause - 1].length);
+    spool_send(&spool, TRESTLEPIP_WRITE_NO_SPACE, letter, sizeof letter);
+    check(spool.state[TRESTLEPIP_AT_WRITTEN] == 0, "the job went on after cause", cause);
+    end(STOPPED, line, "not reported as on the page: cause", cause);
 }
 
-/* A data check is no refusal: a line on the sense, and the job goes on. */
-static void check_data_check(struct spool *spool)
+/* Each check with the commands that provoke it on line 1 of a sheet; the last is the one that is reported. Channels stand on line 2 of the form. */
+static const struct {
+    const char *row;
+    uint8_t channel, before, command;
+    const uint8_t *record;
+} checks[] = {
+    {"80", 0, TRESTLEPIP_NO_OP, TRESTLEPIP_WRITE_NO_SPACE, no_letter},
+    {"20", 0, TRESTLEPIP_SELECT_1, TRESTLEPIP_WRITE_NO_SPACE, letter},
+    {"10", 0, TRESTLEPIP_NO_OP, TRESTLEPIP_WRITE_SKIP(2), letter},
+    {"08", 0, TRESTLEPIP_WRITE_NO_SPACE, TRESTLEPIP_WRITE_NO_SPACE, other_letter},
+    {SAYS_CHANNEL_9, 9, TRESTLEPIP_NO_OP, TRESTLEPIP_WRITE_SPACE_1, letter},
+    {SAYS_CHANNEL_12, 12, TRESTLEPIP_NO_OP, TRESTLEPIP_WRITE_SPACE_1, letter},
+};
+
+/* A check is no refusal: the job goes on, and the sheet is to be held back. */
+static void check_check(FILE *page, size_t i)
 {
-    begin(spool);
-    uint64_t answer = spool_send(spool, WRITE_NO_SPACE, (const uint8_t *)"\x3F", 1);
-    bool told = strcmp(reported(spool), "unit check, sense 08 80 00, a byte that cannot be printed\n") == 0;
-    check(told, "not reported: sense after status", trestlepip_status(answer));
-    check(!spool->refused, "the job stopped after status", trestlepip_status(answer));
-    fclose(spool->reports);
+    char text[ROOM], line[2 * ROOM];
+    uint8_t forms[FORM / 4] = {0};
+    forms[4] = checks[i].channel;
+    expect(page, "| Check |", checks[i].row, "data check", text);
+    snprintf(line, sizeof line, "sheet 7 (Calf house, page 2 of 3), line 1, command %02X: %s", checks[i].command, checks[i].channel ? checks[i].row : text);
+    begin(FORM);
+    spool_send(&spool, TRESTLEPIP_LOAD_FCB, forms, sizeof forms);
+    spool.sheet = &sheet;
+    spool_send(&spool, checks[i].before, letter, sizeof letter);
+    spool_send(&spool, checks[i].command, checks[i].record, 1);
+    spool_send(&spool, TRESTLEPIP_CLEAR, NULL, 0);
+    end(HOLD_BACK, line, "not reported: check", (unsigned)i);
+}
+
+static void check_no_channel_12(void)
+{
+    begin(FORM);
+    spool.sheet = &sheet;
+    spool_send_last(&spool, TRESTLEPIP_WRITE_SPACE_1, letter, sizeof letter);
+    spool_send(&spool, TRESTLEPIP_CLEAR, NULL, 0);
+    check(spool.complete == sheet.number && sheet.out && sheet.held, "not held back: channel", 12);
+    spool_send(&spool, 0x00, NULL, 0);
+    end(STOPPED, SAYS_NO_CHANNEL_12 "sheet 7 (Calf house, page 2 of 3), line 1, command 00: refusal 1", "not reported: channel", 12);
+}
+
+/* A sheet that did not come out is not to be held back. */
+static void check_not_out(void)
+{
+    begin(FORM);
+    spool.sheet = &sheet;
+    spool_send(&spool, TRESTLEPIP_WRITE_NO_SPACE, no_letter, sizeof no_letter);
+    spool_send(&spool, 0x00, NULL, 0);
+    end(STOPPED, "is not listed\n" SAYS_NONE_OUT, "said to be out: sheet", 7);
+}
+
+/* A legend that cannot be printed is on every sheet. */
+static void check_loads(void)
+{
+    static const uint8_t legend[] = {1, 1, 1, 1, 1, 1, 0x3F};
+    begin(FORM);
+    spool_send(&spool, TRESTLEPIP_LOAD_COPY_MODIFICATION, legend, sizeof legend);
+    end(HOLD_BACK, SAYS_HOLD_ALL, "not held back after load", TRESTLEPIP_LOAD_COPY_MODIFICATION);
+}
+
+/* realloc that gives memory so many times more. */
+static unsigned gifts;
+static void *give(void *array, size_t bytes)
+{
+    return gifts-- > 0 ? realloc(array, bytes) : NULL;
+}
+
+/* Reads and plans with memory for this many growths; answers whether it was enough. */
+static bool is_memory_enough(unsigned growths)
+{
+    struct herd herd = {.allocate = give};
+    struct plan sheets = {0};
+    FILE *from = scratch(), *reports = scratch();
+    fputs("Here,1,Ann,1\nThere,1,Bess,2\nHere,2,Cora,3\n", from);
+    rewind(from);
+    gifts = growths;
+    enum endings ending = weights_read(&herd, from, "weights", reports);
+    bool planned = ending == ALL_GOOD && sheets_plan(&sheets, &herd);
+    const char *text = written(reports);
+    fputs(text, stderr);
+    check(ending != REFUSED && strcmp(text, ending == ALL_GOOD ? "" : SAYS_NO_MEMORY) == 0, "not reported: memory for growths", growths);
+    free(sheets.sheets);
+    free(herd.animals);
+    free(herd.places);
+    fclose(from);
+    return planned;
+}
+
+static void check_memory(void)
+{
+    unsigned growths = 0;
+    while (!is_memory_enough(growths))
+        growths++;
+    check(growths == 7, "another number of growths:", growths);
+}
+
+/* What a character comes back as from its byte and its code: itself, or FF if it cannot be printed. */
+static int there_and_back(char c)
+{
+    uint8_t table[256], byte;
+    text_table(table);
+    text_to_bytes((char[]){c, '\0'}, &byte, 1);
+    return table[byte] == 0xFF ? 0xFF : text_of_code(table[byte]);
+}
+
+/* No two characters share a code, or one of them would come back as the other. */
+static void check_text(void)
+{
+    for (char c = ' '; c <= '~'; c++) {
+        bool has_none = strchr("[]{}\\^~", c) != NULL;
+        check(there_and_back(c) == (has_none ? 0xFF : c), "not printed as itself: character", (unsigned)c);
+    }
 }
 
 int main(int argc, char **argv)
 {
-    static struct spool spool;
-    FILE *card = argc == 2 ? fopen(argv[1], "r") : NULL;
-    if (!card) {
-        fprintf(stderr, "usage: test_refusals HELP-CARD\n");
+    FILE *page = argc == 2 ? fopen(argv[1], "r") : NULL;
+    if (!page) {
+        fprintf(stderr, "usage: test_refusals NUMBERS\n");
         return 2;
     }
-    for (unsigned number = 1; number <= NUMBERS; number++)
-        check_number(&spool, card, number);
-    for (unsigned cause = 1; cause <= CAUSES; cause++)
-        check_cause(&spool, card, cause);
-    check_data_check(&spool);
-    fclose(card);
-    printf("refusals: %u numbers, %u causes and a data check provoked, %u faults\n", (unsigned)NUMBERS, (unsigned)CAUSES, failures);
+    for (unsigned number = 1; number <= LISTED_NUMBERS; number++)
+        check_number(page, number);
+    for (unsigned cause = 1; cause <= LISTED_CAUSES; cause++)
+        check_cause(page, cause);
+    for (size_t i = 0; i < sizeof checks / sizeof *checks; i++)
+        check_check(page, i);
+    check_no_channel_12();
+    check_not_out();
+    check_loads();
+    check_memory();
+    check_text();
+    fclose(page);
+    printf("refusals: %u numbers, %u causes and %zu checks provoked, %u faults\n", (unsigned)LISTED_NUMBERS, (unsigned)LISTED_CAUSES,
+        sizeof checks / sizeof *checks + 2, failures);
     return failures == 0 ? 0 : 1;
 }
