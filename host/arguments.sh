@@ -1,5 +1,5 @@
 # shellcheck shell=sh disable=SC2034 # FILE, DATE, COPY and HEADS are for the script that sources this
-# Sourced by ./morning, which sets HOST_DIR: judges the arguments before anything is built. Sets FILE, DATE, COPY (empty for all), HEADS (empty or yes).
+# Sourced by ./morning, after tools/setup.sh, and with HOST_DIR set: judges the arguments before anything is built. Sets FILE, DATE, COPY (empty for all), HEADS (empty or yes).
 
 says_option='there is no option %s: see ./morning --help'
 says_arguments='too many arguments: see ./morning --help'
@@ -32,10 +32,7 @@ USAGE
 }
 
 refuse_arguments() { # MESSAGE WORD...
-    message=$1
-    shift
-    # shellcheck disable=SC2059 # the messages are formats
-    printf "morning: $message\n" "$@" >&2
+    warn "$@"
     exit 2
 }
 

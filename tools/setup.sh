@@ -20,7 +20,7 @@ TRAPS=''
 # time, as rt chooses on two processors, leave one idle.
 export RT_JOBS="${RT_JOBS:-4}"
 
-# The command that the messages are of: the one that was called, also where it calls another script.
+# The command that the messages are of: the one that someone called, also where it calls another script.
 SAYS=${SAYS:-${0##*/}}
 export SAYS
 
@@ -245,8 +245,8 @@ build() { # NAME SOURCE...
 }
 
 # What each program is made of, but for the library and the second program.
-HOST='host/spool.c host/show.c host/text.c'
-MORNING="host/morning.c host/sheets.c $HOST"
+HOST='host/weights.c host/sheets.c host/spool.c host/show.c host/report.c host/text.c'
+MORNING="host/morning.c $HOST"
 REFUSALS="host/test_refusals.c $HOST"
 SECOND='tests/second/second.c tests/second/state.c tests/second/form.c tests/second/line.c tests/second/copies.c'
 GENERATOR='tests/second/calls.c tests/second/chance.c tests/second/look.c tests/second/damage.c'
