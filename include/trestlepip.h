@@ -245,6 +245,105 @@ uint64_t trestlepip_release(
         uint8_t *state, size_t state_len, uint8_t *page, size_t page_len,
         uint8_t *legends, size_t legends_len, uint8_t *tables, size_t tables_len);
 
+/*
+ * The rest is trestlepip_printable_lines, which stands last, and what it is made of. Each part judges some fields of a state as docs/STATE.md says, so
+ * that a program which was handed a state can tell whether a printer has it.
+ */
+static inline int trestlepip_at_most(const uint8_t *bytes, size_t count, unsigned most)
+{
+    for (size_t i = 0; i < count; i++)
+        if (bytes[i] > most)
+            return 0;
+    return 1;
+}
+
+static inline int trestlepip_form_is_listed(unsigned form)
+{
+    switch (form) {
+    case 72: case 84: case 96: case 132: case 144: case 168: case 192: case 204: case 240: case 264: case 288:
+        return 1;
+    default:
+        return 0;
+    }
+}
+
+static inline int trestlepip_pitches_are_listed(const uint8_t *pitch)
+{
+    for (size_t i = 0; i < TRESTLEPIP_MODULES; i++)
+        if (pitch[i] != 0 && pitch[i] != 10 && pitch[i] != 12 && pitch[i] != 15)
+            return 0;
+    return pitch[0] != 0;
+}
+
+/* While a page waits no line is marked written; without one no reset is due. */
+static inline int trestlepip_flags_agree(const uint8_t *state)
+{
+    unsigned waiting = state[TRESTLEPIP_AT_WAITING];
+    return state[TRESTLEPIP_AT_BLOCK] <= 1
+        && state[TRESTLEPIP_AT_LOADED] == 1 && trestlepip_at_most(state + TRESTLEPIP_AT_LOADED, TRESTLEPIP_SLOTS, 1)
+        && waiting <= 1 && state[TRESTLEPIP_AT_WRITTEN] <= 1 - waiting && state[TRESTLEPIP_AT_RESET_DUE] <= waiting;
+}
+
+/* Whether the load takes these pairs; 00 follows them. */
+static inline int trestlepip_sequence_is_good(const uint8_t *sequence, size_t count)
+{
+    unsigned copies = 0;
+    if (count == 0 || count > TRESTLEPIP_SEQUENCE_MOST || count % 2 != 0)
+        return 0;
+    for (size_t i = 0; i < count; i += 2) {
+        if (sequence[i] == 0 || sequence[i + 1] > 1)
+            return 0;
+        copies += sequence[i];
+    }
+    return copies <= 255 && trestlepip_at_most(sequence + count, TRESTLEPIP_SEQUENCE_MOST - count, 0);
+}
+
+/* The height of a line in 24ths of an inch; 0 if the upper half of its FCB byte is no spacing. */
+static inline unsigned trestlepip_line_height(uint8_t fcb_byte)
+{
+    switch (fcb_byte >> 4) {
+    case 0: return 4;
+    case 1: return 3;
+    case 3: return 2;
+    default: return 0;
+    }
+}
+
+/* The printable lines of an FCB, or 0 if its load refuses it. The spacing changes only after whole half inches, and every form is whole half inches. */
+static inline unsigned trestlepip_fcb_lines(const uint8_t *fcb, size_t count, unsigned form)
+{
+    const unsigned half_inch = 12, last_channel = 12;
+    unsigned top = 0, lines = 0;
+    if (count > TRESTLEPIP_FCB_MOST || !trestlepip_at_most(fcb + count, TRESTLEPIP_FCB_MOST - count, 0))
+        return 0;
+    for (size_t i = 0; i < count; i++) {
+        unsigned height = trestlepip_line_height(fcb[i]), channel = fcb[i] & 0x0Fu;
+        int changes = i > 0 && height != trestlepip_line_height(fcb[i - 1]);
+        int printable = top >= half_inch && top + half_inch < form;
+        if (height == 0 || (changes && top % half_inch != 0) || channel > last_channel || (channel != 0 && !printable))
+            return 0;
+        top += height;
+        lines += printable ? 1u : 0u;
+    }
+    return top == form ? lines : 0;
+}
+
+/*
+ * P, the printable lines of the FCB in use: so many lines of a composed copy are the copy's. It is 12 to 132, and 0 for a state that no printer has:
+ * one that every call except Start refuses with TRESTLEPIP_BAD_STORE, whatever the other stores hold. It reads the TRESTLEPIP_STATE_BYTES bytes of
+ * the state. While a page waits P stays the same.
+ */
+static inline unsigned trestlepip_printable_lines(const uint8_t *state)
+{
+    unsigned form = state[TRESTLEPIP_AT_FORM] * 256u + state[TRESTLEPIP_LAST_OF_FORM];
+    unsigned lines = trestlepip_fcb_lines(state + TRESTLEPIP_AT_FCB, state[TRESTLEPIP_AT_FCB_COUNT], form);
+    int good = trestlepip_form_is_listed(form) && trestlepip_pitches_are_listed(state + TRESTLEPIP_AT_PITCH) && trestlepip_flags_agree(state)
+        && trestlepip_sequence_is_good(state + TRESTLEPIP_AT_SEQUENCE, state[TRESTLEPIP_AT_SEQUENCE_COUNT])
+        && state[TRESTLEPIP_AT_SELECTED] < TRESTLEPIP_SLOTS && state[TRESTLEPIP_AT_COPY_NUMBER] != 0
+        && state[TRESTLEPIP_AT_LINE] >= 1 && state[TRESTLEPIP_AT_LINE] <= lines;
+    return good ? lines : 0;
+}
+
 #ifdef __cplusplus
 }
 #endif
