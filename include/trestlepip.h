@@ -4,25 +4,86 @@
  * A printer is four buffers that the host lends to every call: the state, and the stores page, legends and tables. The library keeps nothing
  * else: no memory of its own, no global, no file. `trestlepip_start` fills the buffers; each later call gets them as the one before left them.
  *
- *     uint8_t state[TRESTLEPIP_STATE_BYTES], page[TRESTLEPIP_PAGE_BYTES];
- *     uint8_t legends[TRESTLEPIP_LEGEND_BYTES], tables[TRESTLEPIP_TABLE_BYTES], out[TRESTLEPIP_PAGE_BYTES];
- *     #define STORES state, sizeof state, page, sizeof page, legends, sizeof legends, tables, sizeof tables
- *     uint64_t answer = trestlepip_start(84, 10, 10, 10, 10, STORES);
- *     answer = trestlepip_command(0x89, record, record_len, NULL, 0, STORES);    // write, and skip to channel 1
- *     if (trestlepip_number(answer) != TRESTLEPIP_ACCEPTED) report(answer);      // docs/HELP-CARD.md says what each number means
- *     if (trestlepip_ready(answer)) {                                            // this command completed a page
- *         for (uint32_t k = 1; trestlepip_number(answer = trestlepip_compose(k, out, sizeof out, STORES)) == TRESTLEPIP_ACCEPTED; k++)
- *             print(out, trestlepip_copy_number(answer), trestlepip_mark(answer));
- *         answer = trestlepip_release(STORES);
- *     }
+ * Below stand, in this order: a whole program as an example; the sizes of the buffers; the command bytes; the numbers and causes that an answer may
+ * have, and its fields; the bits of status and sense; what a cell of a page is; the places in the state; the four calls, each with its refusals;
+ * and trestlepip_printable_lines, which says how many lines a copy has. Elsewhere stand:
+ *   - docs/NUMBERS.md, the programmer's card: what a program does about each number, cause and check;
+ *   - docs/RECORDS.md: the record of each load byte by byte, with an example;
+ *   - docs/STATE.md: the state byte by byte, with the range of each field;
+ *   - include/trestlepip_text.h: a short text for each number, cause and data check, for a program's log.
  *
  * What the library promises: every call, with any value of any number and any length and contents of any buffer, returns an answer; a refused
- * call changes nothing but the sense bytes in the state (docs/HELP-CARD.md), Start apart. An empty buffer may be a null pointer with length 0.
+ * call changes nothing but the sense bytes in the state (docs/NUMBERS.md), Start apart. An empty buffer may be a null pointer with length 0.
  *
  * What the host owes, and no proof covers:
  *   - each length is that of memory which the host may read, and which it may write where the parameter is not const;
  *   - the buffers of one call do not overlap;
  *   - no other thread touches them during the call. Printers with buffers of their own may be used by several threads at once.
+ *
+ * The example compiles as it stands, and is tested so (tests/header/):
+ *
+ *     // Prints a page as text, in two copies. Records are in EBCDIC.
+ *     #include <stdbool.h>
+ *     #include <stdio.h>
+ *     #include "trestlepip.h"
+ *     #include "trestlepip_text.h"
+ *     #define STORES state, sizeof state, page, sizeof page, legends, sizeof legends, tables, sizeof tables
+ *     static uint8_t state[TRESTLEPIP_STATE_BYTES], page[TRESTLEPIP_PAGE_BYTES], copy[TRESTLEPIP_PAGE_BYTES];
+ *     static uint8_t legends[TRESTLEPIP_LEGEND_BYTES], tables[TRESTLEPIP_TABLE_BYTES];
+ *
+ *     // Reports a refusal or a check. The sense, which says more of some, is read before the next command sets it anew.
+ *     static bool is_good(uint64_t answer)
+ *     {
+ *         uint8_t sense[TRESTLEPIP_SENSE_BYTES] = {0};
+ *         unsigned number = trestlepip_number(answer);
+ *         if (number == TRESTLEPIP_ACCEPTED && !(trestlepip_status(answer) & TRESTLEPIP_STATUS_UNIT_CHECK))
+ *             return true;
+ *         trestlepip_command(TRESTLEPIP_SENSE, NULL, 0, sense, sizeof sense, STORES);
+ *         fprintf(stderr, "number %u: %s; sense %02X %02X %02X\n", number, trestlepip_number_text(number), sense[0], sense[1], sense[2]);
+ *         return false;
+ *     }
+ *
+ *     // The first P lines of the buffer are this copy's. What stands after them is older, and no part of it.
+ *     static bool print_copy(uint64_t answer)
+ *     {
+ *         static const char of_location[] = " ABCDEFGHI#.<(+|&JKLMNOPQR!$*);#-/STUVWXYZ#,%_>?0123456789:#@'=\"";    // in the starting table
+ *         printf("copy %u\n", trestlepip_copy_number(answer));
+ *         for (unsigned line = 0; line < trestlepip_printable_lines(state); line++) {
+ *             for (unsigned i = 0; i < TRESTLEPIP_LINE_CELLS; i++)
+ *                 putchar(of_location[trestlepip_location(copy[line * TRESTLEPIP_LINE_CELLS + i])]);
+ *             putchar('\n');
+ *         }
+ *         return fflush(stdout) == 0;
+ *     }
+ *
+ *     // Number 7 alone says that all copies are out. Then the page is released, and in no other case.
+ *     static bool print_page(void)
+ *     {
+ *         for (uint32_t index = 1;; index++) {
+ *             uint64_t answer = trestlepip_compose(index, copy, sizeof copy, STORES);
+ *             if (trestlepip_number(answer) == TRESTLEPIP_BAD_INDEX)
+ *                 return is_good(trestlepip_release(STORES));
+ *             if (!is_good(answer) || !print_copy(answer))
+ *                 return false;
+ *         }
+ *     }
+ *
+ *     // Sends a command, and prints the page that it completes.
+ *     static bool send_command(uint8_t command, const uint8_t *record, size_t length)
+ *     {
+ *         uint64_t answer = trestlepip_command(command, record, length, NULL, 0, STORES);
+ *         return is_good(answer) && (!trestlepip_ready(answer) || print_page());
+ *     }
+ *
+ *     int main(void)
+ *     {
+ *         static const uint8_t two_copies[] = {2, 0}, calf[] = {0xC3, 0xC1, 0xD3, 0xC6}, weight[] = {0xF4, 0xF1, 0x4B, 0xF5};
+ *         bool good = is_good(trestlepip_start(84, 10, 10, 10, 10, STORES))
+ *             && send_command(TRESTLEPIP_LOAD_OVERLAY_SEQUENCE, two_copies, sizeof two_copies)
+ *             && send_command(TRESTLEPIP_WRITE_SPACE_1, calf, sizeof calf)
+ *             && send_command(TRESTLEPIP_WRITE_SKIP(1), weight, sizeof weight);    // over the page's end to channel 1: the page is complete
+ *         return good ? 0 : 1;
+ *     }
  */
 #ifndef TRESTLEPIP_H
 #define TRESTLEPIP_H
@@ -232,8 +293,11 @@ uint64_t trestlepip_command(uint8_t command,
         uint8_t *legends, size_t legends_len, uint8_t *tables, size_t tables_len);
 
 /*
- * Compose: the copy with this index, from 1, of the page that waits, as P lines of 204 cells over the front of `out`; the bytes after them stay.
- * A cell is a code: two bits of module, six of location. Refusals, in this order: 9, 6, 7, 8. Number 7 ends a loop over the copies.
+ * Compose: the copy with this index, from 1, of the page that waits, as P lines of 204 cells over the front of `out`. A cell is a code: two bits of
+ * module, six of location. Refusals, in this order: 9, 6, 7, 8. Number 7, and no other, ends a loop over the copies.
+ *
+ * Beware: the bytes of `out` after the P lines keep what they held. If that was a copy of a page with more lines, its last lines still stand there, and
+ * must not be printed with this one. Clear `out` before each call, or take trestlepip_printable_lines(state) lines from it and no more.
  */
 uint64_t trestlepip_compose(uint32_t copy,
         uint8_t *out, size_t out_len,
