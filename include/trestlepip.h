@@ -297,7 +297,7 @@ uint64_t trestlepip_command(uint8_t command,
  * module, six of location. Refusals, in this order: 9, 6, 7, 8. Number 7, and no other, ends a loop over the copies.
  *
  * Beware: the bytes of `out` after the P lines keep what they held. If that was a copy of a page with more lines, its last lines still stand there, and
- * must not be printed with this one. Clear `out` before each call, or take trestlepip_printable_lines(state) lines from it and no more.
+ * must not be printed with this one. Set `out` to 00 before each call, or take trestlepip_printable_lines(state) lines from it and no more.
  */
 uint64_t trestlepip_compose(uint32_t copy,
         uint8_t *out, size_t out_len,

@@ -186,20 +186,32 @@ static void damage(struct printer *p, enum good_states which)
         damage_pair(p);
 }
 
-/* Lays out some half inches at any spacing, and mostly makes a fault or two: two bytes exchanged, one changed, one too many or too few. */
+/* An FCB byte that is mostly none. */
+static uint8_t odd_byte(void)
+{
+    unsigned upper = chance(16), channel = chance(2) ? chance(16) : 0;
+    return (uint8_t)(upper << 4 | channel);
+}
+
+/* Exchanges two bytes of an FCB, or changes one, and may add one or leave one out. Returns its bytes. */
+static size_t make_fault(uint8_t *fcb, size_t count)
+{
+    size_t one = chance((unsigned)count), other = chance((unsigned)count);
+    uint8_t byte = fcb[one];
+    fcb[one] = chance(2) ? fcb[other] : odd_byte();
+    fcb[other] = byte;
+    return chance(4) == 0 ? count + 1 : count - (chance(8) == 0);
+}
+
+/* Lays out some half inches at any spacing, and makes up to two faults. Returns its bytes. */
 static size_t make_up_fcb(uint8_t *fcb, unsigned half_inches)
 {
     unsigned spacing[HALF_INCHES_MOST + 1];
     for (unsigned i = 0; i < half_inches; i++)
         spacing[i] = chance(chance(4) == 0 ? SPACINGS : 1);
     size_t count = put_fcb(spacing, half_inches, fcb);
-    for (unsigned faults_left = chance(3); faults_left > 0 && count > 0; faults_left--) {
-        size_t one = chance((unsigned)count), other = chance((unsigned)count);
-        uint8_t byte = fcb[one];
-        fcb[one] = chance(2) ? fcb[other] : (uint8_t)(chance(16) << 4 | chance(2) * chance(16));
-        fcb[other] = byte;
-        count = chance(4) == 0 ? count + 1 : count - (chance(8) == 0);
-    }
+    for (unsigned left = chance(3); left > 0 && count > 0; left--)
+        count = make_fault(fcb, count);
     return count;
 }
 
