@@ -4,25 +4,86 @@
  * A printer is four buffers that the host lends to every call: the state, and the stores page, legends and tables. The library keeps nothing
  * else: no memory of its own, no global, no file. `trestlepip_start` fills the buffers; each later call gets them as the one before left them.
  *
- *     uint8_t state[TRESTLEPIP_STATE_BYTES], page[TRESTLEPIP_PAGE_BYTES];
- *     uint8_t legends[TRESTLEPIP_LEGEND_BYTES], tables[TRESTLEPIP_TABLE_BYTES], out[TRESTLEPIP_PAGE_BYTES];
- *     #define STORES state, sizeof state, page, sizeof page, legends, sizeof legends, tables, sizeof tables
- *     uint64_t answer = trestlepip_start(84, 10, 10, 10, 10, STORES);
- *     answer = trestlepip_command(0x89, record, record_len, NULL, 0, STORES);    // write, and skip to channel 1
- *     if (trestlepip_number(answer) != TRESTLEPIP_ACCEPTED) report(answer);      // docs/HELP-CARD.md says what each number means
- *     if (trestlepip_ready(answer)) {                                            // this command completed a page
- *         for (uint32_t k = 1; trestlepip_number(answer = trestlepip_compose(k, out, sizeof out, STORES)) == TRESTLEPIP_ACCEPTED; k++)
- *             print(out, trestlepip_copy_number(answer), trestlepip_mark(answer));
- *         answer = trestlepip_release(STORES);
- *     }
+ * Below stand, in this order: a whole program as an example; the sizes of the buffers; the command bytes; the numbers and causes that an answer may
+ * have, and its fields; the bits of status and sense; what a cell of a page is; the places in the state; the four calls, each with its refusals;
+ * and trestlepip_printable_lines, which says how many lines a copy has. Elsewhere stand:
+ *   - docs/NUMBERS.md, the programmer's card: what a program does about each number, cause and check;
+ *   - docs/RECORDS.md: the record of each load byte by byte, with an example;
+ *   - docs/STATE.md: the state byte by byte, with the range of each field;
+ *   - include/trestlepip_text.h: a short text for each number, cause and data check, for a program's log.
  *
  * What the library promises: every call, with any value of any number and any length and contents of any buffer, returns an answer; a refused
- * call changes nothing but the sense bytes in the state (docs/HELP-CARD.md), Start apart. An empty buffer may be a null pointer with length 0.
+ * call changes nothing but the sense bytes in the state (docs/NUMBERS.md), Start apart. An empty buffer may be a null pointer with length 0.
  *
  * What the host owes, and no proof covers:
  *   - each length is that of memory which the host may read, and which it may write where the parameter is not const;
  *   - the buffers of one call do not overlap;
  *   - no other thread touches them during the call. Printers with buffers of their own may be used by several threads at once.
+ *
+ * The example compiles as it stands, and is tested so (tests/header/):
+ *
+ *     // Prints a page as text, in two copies. Records are in EBCDIC.
+ *     #include <stdbool.h>
+ *     #include <stdio.h>
+ *     #include "trestlepip.h"
+ *     #include "trestlepip_text.h"
+ *     #define STORES state, sizeof state, page, sizeof page, legends, sizeof legends, tables, sizeof tables
+ *     static uint8_t state[TRESTLEPIP_STATE_BYTES], page[TRESTLEPIP_PAGE_BYTES], copy[TRESTLEPIP_PAGE_BYTES];
+ *     static uint8_t legends[TRESTLEPIP_LEGEND_BYTES], tables[TRESTLEPIP_TABLE_BYTES];
+ *
+ *     // Reports a refusal or a check. The sense, which says more of some, is read before the next command sets it anew.
+ *     static bool is_good(uint64_t answer)
+ *     {
+ *         uint8_t sense[TRESTLEPIP_SENSE_BYTES] = {0};
+ *         unsigned number = trestlepip_number(answer);
+ *         if (number == TRESTLEPIP_ACCEPTED && !(trestlepip_status(answer) & TRESTLEPIP_STATUS_UNIT_CHECK))
+ *             return true;
+ *         trestlepip_command(TRESTLEPIP_SENSE, NULL, 0, sense, sizeof sense, STORES);
+ *         fprintf(stderr, "number %u: %s; sense %02X %02X %02X\n", number, trestlepip_number_text(number), sense[0], sense[1], sense[2]);
+ *         return false;
+ *     }
+ *
+ *     // The first P lines of the buffer are this copy's. What stands after them is older, and no part of it.
+ *     static bool print_copy(uint64_t answer)
+ *     {
+ *         static const char of_location[] = " ABCDEFGHI#.<(+|&JKLMNOPQR!$*);#-/STUVWXYZ#,%_>?0123456789:#@'=\"";    // in the starting table
+ *         printf("copy %u\n", trestlepip_copy_number(answer));
+ *         for (unsigned line = 0; line < trestlepip_printable_lines(state); line++) {
+ *             for (unsigned i = 0; i < TRESTLEPIP_LINE_CELLS; i++)
+ *                 putchar(of_location[trestlepip_location(copy[line * TRESTLEPIP_LINE_CELLS + i])]);
+ *             putchar('\n');
+ *         }
+ *         return fflush(stdout) == 0;
+ *     }
+ *
+ *     // Number 7 alone says that all copies are out. Then the page is released, and in no other case.
+ *     static bool print_page(void)
+ *     {
+ *         for (uint32_t index = 1;; index++) {
+ *             uint64_t answer = trestlepip_compose(index, copy, sizeof copy, STORES);
+ *             if (trestlepip_number(answer) == TRESTLEPIP_BAD_INDEX)
+ *                 return is_good(trestlepip_release(STORES));
+ *             if (!is_good(answer) || !print_copy(answer))
+ *                 return false;
+ *         }
+ *     }
+ *
+ *     // Sends a command, and prints the page that it completes.
+ *     static bool send_command(uint8_t command, const uint8_t *record, size_t length)
+ *     {
+ *         uint64_t answer = trestlepip_command(command, record, length, NULL, 0, STORES);
+ *         return is_good(answer) && (!trestlepip_ready(answer) || print_page());
+ *     }
+ *
+ *     int main(void)
+ *     {
+ *         static const uint8_t two_copies[] = {2, 0}, calf[] = {0xC3, 0xC1, 0xD3, 0xC6}, weight[] = {0xF4, 0xF1, 0x4B, 0xF5};
+ *         bool good = is_good(trestlepip_start(84, 10, 10, 10, 10, STORES))
+ *             && send_command(TRESTLEPIP_LOAD_OVERLAY_SEQUENCE, two_copies, sizeof two_copies)
+ *             && send_command(TRESTLEPIP_WRITE_SPACE_1, calf, sizeof calf)
+ *             && send_command(TRESTLEPIP_WRITE_SKIP(1), weight, sizeof weight);    // over the page's end to channel 1: the page is complete
+ *         return good ? 0 : 1;
+ *     }
  */
 #ifndef TRESTLEPIP_H
 #define TRESTLEPIP_H
@@ -232,8 +293,11 @@ uint64_t trestlepip_command(uint8_t command,
         uint8_t *legends, size_t legends_len, uint8_t *tables, size_t tables_len);
 
 /*
- * Compose: the copy with this index, from 1, of the page that waits, as P lines of 204 cells over the front of `out`; the bytes after them stay.
- * A cell is a code: two bits of module, six of location. Refusals, in this order: 9, 6, 7, 8. Number 7 ends a loop over the copies.
+ * Compose: the copy with this index, from 1, of the page that waits, as P lines of 204 cells over the front of `out`. A cell is a code: two bits of
+ * module, six of location. Refusals, in this order: 9, 6, 7, 8. Number 7, and no other, ends a loop over the copies.
+ *
+ * Beware: the bytes of `out` after the P lines keep what they held. If that was a copy of a page with more lines, its last lines still stand there, and
+ * must not be printed with this one. Set `out` to 00 before each call, or take trestlepip_printable_lines(state) lines from it and no more.
  */
 uint64_t trestlepip_compose(uint32_t copy,
         uint8_t *out, size_t out_len,
@@ -244,6 +308,105 @@ uint64_t trestlepip_compose(uint32_t copy,
 uint64_t trestlepip_release(
         uint8_t *state, size_t state_len, uint8_t *page, size_t page_len,
         uint8_t *legends, size_t legends_len, uint8_t *tables, size_t tables_len);
+
+/*
+ * The rest is trestlepip_printable_lines, which stands last, and what it is made of. Each part judges some fields of a state as docs/STATE.md says, so
+ * that a program which was handed a state can tell whether a printer has it.
+ */
+static inline int trestlepip_at_most(const uint8_t *bytes, size_t count, unsigned most)
+{
+    for (size_t i = 0; i < count; i++)
+        if (bytes[i] > most)
+            return 0;
+    return 1;
+}
+
+static inline int trestlepip_form_is_listed(unsigned form)
+{
+    switch (form) {
+    case 72: case 84: case 96: case 132: case 144: case 168: case 192: case 204: case 240: case 264: case 288:
+        return 1;
+    default:
+        return 0;
+    }
+}
+
+static inline int trestlepip_pitches_are_listed(const uint8_t *pitch)
+{
+    for (size_t i = 0; i < TRESTLEPIP_MODULES; i++)
+        if (pitch[i] != 0 && pitch[i] != 10 && pitch[i] != 12 && pitch[i] != 15)
+            return 0;
+    return pitch[0] != 0;
+}
+
+/* While a page waits no line is marked written; without one no reset is due. */
+static inline int trestlepip_flags_agree(const uint8_t *state)
+{
+    unsigned waiting = state[TRESTLEPIP_AT_WAITING];
+    return state[TRESTLEPIP_AT_BLOCK] <= 1
+        && state[TRESTLEPIP_AT_LOADED] == 1 && trestlepip_at_most(state + TRESTLEPIP_AT_LOADED, TRESTLEPIP_SLOTS, 1)
+        && waiting <= 1 && state[TRESTLEPIP_AT_WRITTEN] <= 1 - waiting && state[TRESTLEPIP_AT_RESET_DUE] <= waiting;
+}
+
+/* Whether the load takes these pairs; 00 follows them. */
+static inline int trestlepip_sequence_is_good(const uint8_t *sequence, size_t count)
+{
+    unsigned copies = 0;
+    if (count == 0 || count > TRESTLEPIP_SEQUENCE_MOST || count % 2 != 0)
+        return 0;
+    for (size_t i = 0; i < count; i += 2) {
+        if (sequence[i] == 0 || sequence[i + 1] > 1)
+            return 0;
+        copies += sequence[i];
+    }
+    return copies <= 255 && trestlepip_at_most(sequence + count, TRESTLEPIP_SEQUENCE_MOST - count, 0);
+}
+
+/* The height of a line in 24ths of an inch; 0 if the upper half of its FCB byte is no spacing. */
+static inline unsigned trestlepip_line_height(uint8_t fcb_byte)
+{
+    switch (fcb_byte >> 4) {
+    case 0: return 4;
+    case 1: return 3;
+    case 3: return 2;
+    default: return 0;
+    }
+}
+
+/* The printable lines of an FCB, or 0 if its load refuses it. The spacing changes only after whole half inches, and every form is whole half inches. */
+static inline unsigned trestlepip_fcb_lines(const uint8_t *fcb, size_t count, unsigned form)
+{
+    const unsigned half_inch = 12, last_channel = 12;
+    unsigned top = 0, lines = 0;
+    if (count > TRESTLEPIP_FCB_MOST || !trestlepip_at_most(fcb + count, TRESTLEPIP_FCB_MOST - count, 0))
+        return 0;
+    for (size_t i = 0; i < count; i++) {
+        unsigned height = trestlepip_line_height(fcb[i]), channel = fcb[i] & 0x0Fu;
+        int changes = i > 0 && height != trestlepip_line_height(fcb[i - 1]);
+        int printable = top >= half_inch && top + half_inch < form;
+        if (height == 0 || (changes && top % half_inch != 0) || channel > last_channel || (channel != 0 && !printable))
+            return 0;
+        top += height;
+        lines += printable ? 1u : 0u;
+    }
+    return top == form ? lines : 0;
+}
+
+/*
+ * P, the printable lines of the FCB in use: so many lines of a composed copy are the copy's. It is 12 to 132, and 0 for a state that no printer has:
+ * one that every call except Start refuses with TRESTLEPIP_BAD_STORE, whatever the other stores hold. It reads the TRESTLEPIP_STATE_BYTES bytes of
+ * the state. While a page waits P stays the same.
+ */
+static inline unsigned trestlepip_printable_lines(const uint8_t *state)
+{
+    unsigned form = state[TRESTLEPIP_AT_FORM] * 256u + state[TRESTLEPIP_LAST_OF_FORM];
+    unsigned lines = trestlepip_fcb_lines(state + TRESTLEPIP_AT_FCB, state[TRESTLEPIP_AT_FCB_COUNT], form);
+    int good = trestlepip_form_is_listed(form) && trestlepip_pitches_are_listed(state + TRESTLEPIP_AT_PITCH) && trestlepip_flags_agree(state)
+        && trestlepip_sequence_is_good(state + TRESTLEPIP_AT_SEQUENCE, state[TRESTLEPIP_AT_SEQUENCE_COUNT])
+        && state[TRESTLEPIP_AT_SELECTED] < TRESTLEPIP_SLOTS && state[TRESTLEPIP_AT_COPY_NUMBER] != 0
+        && state[TRESTLEPIP_AT_LINE] >= 1 && state[TRESTLEPIP_AT_LINE] <= lines;
+    return good ? lines : 0;
+}
 
 #ifdef __cplusplus
 }

@@ -1,0 +1,302 @@
+/*
+ * The names of the header that crates/tables/stdout does not have, held to the library: the bits of status and sense, the locations, and the counts in
+ * the state. tools/tables asks that each of them stands here. The texts of trestlepip_text.h: one for each number, cause and data check.
+ */
+#include "printer.h"
+#include "trestlepip_text.h"
+
+#include <stdio.h>
+#include <string.h>
+
+enum { FORM = 84, FCB_BYTES = 21, STEPS = 3, RECORD = 24, TABLE = 256, BYTES = 256 };
+
+/* What a command's status and the sense after it are to be, with the commands that lead there. */
+struct row {
+    const char *what;
+    struct {
+        uint8_t command, length, record[RECORD];
+    } steps[STEPS];
+    unsigned count, status;
+    uint8_t sense[4];
+};
+
+#define A_LETTER {TRESTLEPIP_WRITE_NO_SPACE, 1, {0xC1}}
+#define ANOTHER_LETTER {TRESTLEPIP_WRITE_NO_SPACE, 1, {0xC2}}
+#define NO_LETTER {TRESTLEPIP_WRITE_NO_SPACE, 1, {0x3F}}
+#define WITHOUT_RECORD(command) {command, 0, {0}}
+#define FCB(...) {TRESTLEPIP_LOAD_FCB, FCB_BYTES, {__VA_ARGS__}}
+#define CHECKED (TRESTLEPIP_STATUS_ENDED | TRESTLEPIP_STATUS_UNIT_CHECK)
+#define IDLE (TRESTLEPIP_SENSE_3_READY | TRESTLEPIP_SENSE_3_EMPTY)
+
+static const struct row rows[] = {
+    {"ended", {WITHOUT_RECORD(TRESTLEPIP_CLEAR)}, 1, TRESTLEPIP_STATUS_ENDED, {0, 0, 0, IDLE}},
+    {"a page started", {A_LETTER}, 1, TRESTLEPIP_STATUS_ENDED, {0, 0, 0, TRESTLEPIP_SENSE_3_READY}},
+    {"a page waiting", {A_LETTER, WITHOUT_RECORD(TRESTLEPIP_CLEAR)}, 2, TRESTLEPIP_STATUS_ENDED, {0, 0, 0, TRESTLEPIP_SENSE_3_READY}},
+    {"busy", {A_LETTER, WITHOUT_RECORD(TRESTLEPIP_CLEAR), WITHOUT_RECORD(TRESTLEPIP_CLEAR)}, 3, TRESTLEPIP_STATUS_BUSY,
+        {0, 0, 0, TRESTLEPIP_SENSE_3_READY}},
+    {"blocked", {WITHOUT_RECORD(TRESTLEPIP_BLOCK)}, 1, TRESTLEPIP_STATUS_ENDED, {0, 0, 0, IDLE | TRESTLEPIP_SENSE_3_BLOCKED}},
+    {"allowed", {WITHOUT_RECORD(TRESTLEPIP_BLOCK), WITHOUT_RECORD(TRESTLEPIP_ALLOW)}, 2, TRESTLEPIP_STATUS_ENDED, {0, 0, 0, IDLE}},
+    {"not listed", {WITHOUT_RECORD(0x00)}, 1, CHECKED, {TRESTLEPIP_SENSE_0_COMMAND_REJECT, TRESTLEPIP_SENSE_1_NOT_LISTED, 0, IDLE}},
+    {"channel 9", {FCB(0, 0, 0, 0, 9), WITHOUT_RECORD(TRESTLEPIP_SPACE_1)}, 2, CHECKED, {TRESTLEPIP_SENSE_0_CHANNEL_9, 0, 0, TRESTLEPIP_SENSE_3_READY}},
+    {"channel 12", {FCB(0, 0, 0, 0, 12), WITHOUT_RECORD(TRESTLEPIP_SPACE_1)}, 2, TRESTLEPIP_STATUS_ENDED | TRESTLEPIP_STATUS_UNIT_EXCEPTION,
+        {0, 0, 0, TRESTLEPIP_SENSE_3_READY}},
+    {"unprintable", {NO_LETTER}, 1, CHECKED, {TRESTLEPIP_SENSE_0_DATA_CHECK, TRESTLEPIP_SENSE_1_UNPRINTABLE, 0, TRESTLEPIP_SENSE_3_READY}},
+    {"no table", {WITHOUT_RECORD(TRESTLEPIP_SELECT_1), A_LETTER}, 2, CHECKED,
+        {TRESTLEPIP_SENSE_0_DATA_CHECK, TRESTLEPIP_SENSE_1_NO_TABLE, 0, TRESTLEPIP_SENSE_3_READY}},
+    {"no match", {WITHOUT_RECORD(TRESTLEPIP_SKIP(2))}, 1, CHECKED,
+        {TRESTLEPIP_SENSE_0_DATA_CHECK, TRESTLEPIP_SENSE_1_NO_MATCH, 0, TRESTLEPIP_SENSE_3_READY}},
+    {"multiple", {A_LETTER, ANOTHER_LETTER}, 2, CHECKED, {TRESTLEPIP_SENSE_0_DATA_CHECK, TRESTLEPIP_SENSE_1_MULTIPLE, 0, TRESTLEPIP_SENSE_3_READY}},
+    {"unprintable hidden", {WITHOUT_RECORD(TRESTLEPIP_BLOCK), NO_LETTER}, 2, TRESTLEPIP_STATUS_ENDED,
+        {0, 0, 0, TRESTLEPIP_SENSE_3_READY | TRESTLEPIP_SENSE_3_BLOCKED}},
+    {"multiple hidden", {WITHOUT_RECORD(TRESTLEPIP_BLOCK), A_LETTER, ANOTHER_LETTER}, 3, TRESTLEPIP_STATUS_ENDED,
+        {0, 0, 0, TRESTLEPIP_SENSE_3_READY | TRESTLEPIP_SENSE_3_BLOCKED}},
+    {"no table not hidden", {WITHOUT_RECORD(TRESTLEPIP_BLOCK), WITHOUT_RECORD(TRESTLEPIP_SELECT_1), A_LETTER}, 3, CHECKED,
+        {TRESTLEPIP_SENSE_0_DATA_CHECK, TRESTLEPIP_SENSE_1_NO_TABLE, 0, TRESTLEPIP_SENSE_3_READY | TRESTLEPIP_SENSE_3_BLOCKED}},
+    {"no match not hidden", {WITHOUT_RECORD(TRESTLEPIP_BLOCK), WITHOUT_RECORD(TRESTLEPIP_SKIP(2))}, 2, CHECKED,
+        {TRESTLEPIP_SENSE_0_DATA_CHECK, TRESTLEPIP_SENSE_1_NO_MATCH, 0, TRESTLEPIP_SENSE_3_READY | TRESTLEPIP_SENSE_3_BLOCKED}},
+    {"load on a started page", {A_LETTER, {TRESTLEPIP_LOAD_COPY_NUMBER, 1, {1}}}, 2, CHECKED,
+        {TRESTLEPIP_SENSE_0_LOAD_CHECK, 0, 0, TRESTLEPIP_SENSE_3_READY}},
+    {"cause 1", {FCB(0, 0, 0, 13)}, 1, CHECKED, {TRESTLEPIP_SENSE_0_LOAD_CHECK, TRESTLEPIP_SENSE_1_CHANNEL, 0, IDLE}},
+    {"cause 2", {FCB(0, 0, 0, 0x20)}, 1, CHECKED, {TRESTLEPIP_SENSE_0_LOAD_CHECK, TRESTLEPIP_SENSE_1_SPACING, 0, IDLE}},
+    {"cause 3", {{TRESTLEPIP_LOAD_FCB, 3, {0}}}, 1, CHECKED, {TRESTLEPIP_SENSE_0_LOAD_CHECK, TRESTLEPIP_SENSE_1_SUM, 0, IDLE}},
+    {"cause 4", {FCB(1)}, 1, CHECKED, {TRESTLEPIP_SENSE_0_LOAD_CHECK, TRESTLEPIP_SENSE_1_EDGE, 0, IDLE}},
+    {"cause 5", {{TRESTLEPIP_LOAD_TABLE, 1, {0}}}, 1, CHECKED, {TRESTLEPIP_SENSE_0_LOAD_CHECK, TRESTLEPIP_SENSE_1_LENGTH, 0, IDLE}},
+    {"cause 6", {{TRESTLEPIP_LOAD_OVERLAY_SEQUENCE, 1, {1}}}, 1, CHECKED, {TRESTLEPIP_SENSE_0_LOAD_CHECK, TRESTLEPIP_SENSE_1_LENGTH, 0, IDLE}},
+    {"cause 7", {{TRESTLEPIP_LOAD_OVERLAY_SEQUENCE, 2, {0, 0}}}, 1, CHECKED, {TRESTLEPIP_SENSE_0_LOAD_CHECK, 0, TRESTLEPIP_SENSE_2_SEQUENCE, IDLE}},
+    {"cause 8", {{TRESTLEPIP_LOAD_COPY_NUMBER, 1, {0}}}, 1, CHECKED, {TRESTLEPIP_SENSE_0_LOAD_CHECK, TRESTLEPIP_SENSE_1_LENGTH, 0, IDLE}},
+    {"cause 9", {{TRESTLEPIP_LOAD_COPY_MODIFICATION, 1, {1}}}, 1, CHECKED, {TRESTLEPIP_SENSE_0_LOAD_CHECK, TRESTLEPIP_SENSE_1_LENGTH, 0, IDLE}},
+    {"cause 10", {{TRESTLEPIP_LOAD_COPY_MODIFICATION, 7, {1, 1, 1, 0, 1, 1, 0xC1}}}, 1, CHECKED,
+        {TRESTLEPIP_SENSE_0_LOAD_CHECK, 0, TRESTLEPIP_SENSE_2_SEGMENT, IDLE}},
+};
+
+enum { ROWS = sizeof rows / sizeof *rows };
+
+static bool accepted(uint64_t answer)
+{
+    return trestlepip_number(answer) == TRESTLEPIP_ACCEPTED;
+}
+
+/* Sense bytes 4 to 21 are 0, whatever the buffer held. */
+static void check_middle(struct printer *p, uint8_t *sense, unsigned row)
+{
+    memset(sense, 0xFF, TRESTLEPIP_SENSE_BYTES);
+    printer_sense(p, sense);
+    for (unsigned i = 4; i < TRESTLEPIP_SENSE_COUNT_HIGH; i++)
+        check(sense[i] == 0, rows[row].what, i);
+}
+
+static void check_row(struct printer *p, unsigned row)
+{
+    uint8_t sense[TRESTLEPIP_SENSE_BYTES];
+    uint64_t answer = 0;
+    printer_start(p, FORM);
+    for (unsigned i = 0; i < rows[row].count; i++)
+        answer = printer_send(p, rows[row].steps[i].command, rows[row].steps[i].record, rows[row].steps[i].length);
+    check(trestlepip_status(answer) == rows[row].status, rows[row].what, trestlepip_status(answer));
+    check_middle(p, sense, row);
+    for (unsigned i = 0; i < sizeof rows[row].sense; i++)
+        check(sense[i] == rows[row].sense[i], rows[row].what, i);
+    bool of_sum = rows[row].sense[1] == TRESTLEPIP_SENSE_1_SUM && rows[row].sense[0] == TRESTLEPIP_SENSE_0_LOAD_CHECK;
+    check(sense[TRESTLEPIP_SENSE_COUNT_HIGH] == 0, rows[row].what, TRESTLEPIP_SENSE_COUNT_HIGH);
+    check(sense[TRESTLEPIP_SENSE_COUNT_LOW] == (of_sum ? rows[row].steps[0].length : 0), rows[row].what, TRESTLEPIP_SENSE_COUNT_LOW);
+}
+
+/* An FCB of 258 bytes has another high byte than low; the state keeps the sense until it is read. */
+static void check_count(struct printer *p)
+{
+    static const uint8_t fcb[0x0102], kept[] = {TRESTLEPIP_SENSE_0_LOAD_CHECK, TRESTLEPIP_SENSE_1_SUM, 0, 0x01, 0x02};
+    uint8_t sense[TRESTLEPIP_SENSE_BYTES];
+    printer_start(p, FORM);
+    printer_send(p, TRESTLEPIP_LOAD_FCB, fcb, sizeof fcb);
+    check(sizeof kept == TRESTLEPIP_SENSE_KEPT && memcmp(p->state + TRESTLEPIP_AT_SENSE_0, kept, sizeof kept) == 0, "the sense in the state", sizeof kept);
+    printer_sense(p, sense);
+    check(sense[TRESTLEPIP_SENSE_COUNT_HIGH] == 0x01, "the count's high byte", sense[TRESTLEPIP_SENSE_COUNT_HIGH]);
+    check(sense[TRESTLEPIP_SENSE_COUNT_LOW] == 0x02, "the count's low byte", sense[TRESTLEPIP_SENSE_COUNT_LOW]);
+    check(TRESTLEPIP_SENSE_COUNT_LOW == TRESTLEPIP_SENSE_BYTES - 1, "the last sense byte", TRESTLEPIP_SENSE_COUNT_LOW);
+    for (unsigned i = 0; i < TRESTLEPIP_SENSE_KEPT; i++)
+        check(p->state[TRESTLEPIP_AT_SENSE_0 + i] == 0, "not cleared by Sense", i);
+}
+
+/* A table that gives each byte as its code, so that a record is codes. */
+static void load_identity(struct printer *p)
+{
+    uint8_t table[TABLE];
+    for (unsigned i = 0; i < TABLE; i++)
+        table[i] = (uint8_t)i;
+    check(accepted(printer_send(p, TRESTLEPIP_LOAD_TABLE, table, sizeof table)), "the table of codes", TABLE);
+}
+
+/* What stands in a cell after one code and then another: the old one, unless it gives way. */
+static uint8_t merged(uint8_t old, uint8_t new)
+{
+    unsigned o = trestlepip_location(old), n = trestlepip_location(new);
+    bool to_anything = o == TRESTLEPIP_BLANK && n != TRESTLEPIP_BLANK;
+    bool to_a_character = o == TRESTLEPIP_UNDERSCORE && n != TRESTLEPIP_UNDERSCORE && n != TRESTLEPIP_BLANK;
+    return to_anything || to_a_character ? new : old;
+}
+
+static bool collides(uint8_t old, uint8_t new)
+{
+    unsigned o = trestlepip_location(old), n = trestlepip_location(new);
+    bool both_characters = o != TRESTLEPIP_BLANK && o != TRESTLEPIP_UNDERSCORE && n != TRESTLEPIP_BLANK && n != TRESTLEPIP_UNDERSCORE;
+    return both_characters && old != new;
+}
+
+/* One code over another, in cell 1 of a line. */
+static void check_merge(struct printer *p, uint8_t old, uint8_t new)
+{
+    printer_send(p, TRESTLEPIP_WRITE_NO_SPACE, &old, 1);
+    uint64_t answer = printer_send(p, TRESTLEPIP_WRITE_NO_SPACE, &new, 1);
+    bool unit_check = (trestlepip_status(answer) & TRESTLEPIP_STATUS_UNIT_CHECK) != 0;
+    check(p->page[0] == merged(old, new), "merged otherwise", old * 256u + new);
+    check(unit_check == collides(old, new), "checked otherwise", old * 256u + new);
+    printer_send(p, TRESTLEPIP_CLEAR, NULL, 0);
+    trestlepip_release(STORES(p));
+}
+
+/* Every code over every code; FF is none. */
+static void check_merges(struct printer *p)
+{
+    printer_start(p, FORM);
+    load_identity(p);
+    for (unsigned old = 0; old < BYTES - 1; old++)
+        for (unsigned new = 0; new < BYTES - 1; new++)
+            check_merge(p, (uint8_t)old, (uint8_t)new);
+}
+
+/* A code is unprintable exactly if its module is not fitted, or it is FF. */
+static void check_code(struct printer *p, uint8_t code, unsigned absent)
+{
+    uint64_t answer = printer_send(p, TRESTLEPIP_WRITE_NO_SPACE, &code, 1);
+    bool unprintable = (trestlepip_status(answer) & TRESTLEPIP_STATUS_UNIT_CHECK) != 0;
+    check(unprintable == (code == 0xFF || trestlepip_module(code) == absent), "the module of code", code);
+    check(trestlepip_module(code) * 64 + trestlepip_location(code) == code, "module and location of code", code);
+    printer_send(p, TRESTLEPIP_CLEAR, NULL, 0);
+    trestlepip_release(STORES(p));
+}
+
+/* With one module after the other absent; module 0 cannot be. */
+static void check_modules(struct printer *p)
+{
+    for (unsigned absent = 1; absent <= TRESTLEPIP_MODULES; absent++) {
+        uint32_t pitch[TRESTLEPIP_MODULES];
+        for (unsigned i = 0; i < TRESTLEPIP_MODULES; i++)
+            pitch[i] = i == absent ? 0 : 10;
+        check(accepted(trestlepip_start(FORM, pitch[0], pitch[1], pitch[2], pitch[3], STORES(p))), "not started without module", absent);
+        for (unsigned i = 0; i < TRESTLEPIP_MODULES; i++)
+            check(p->state[TRESTLEPIP_AT_PITCH + i] == pitch[i], "the pitch of module", i);
+        load_identity(p);
+        for (unsigned code = 0; code < BYTES; code++)
+            check_code(p, (uint8_t)code, absent);
+    }
+}
+
+/* Each slot is selected, marked as loaded, and filled. */
+static void check_slots(struct printer *p)
+{
+    static const uint8_t selects[TRESTLEPIP_SLOTS] = {TRESTLEPIP_SELECT_0, TRESTLEPIP_SELECT_1, TRESTLEPIP_SELECT_2, TRESTLEPIP_SELECT_3};
+    check(TRESTLEPIP_SLOTS * TABLE == TRESTLEPIP_TABLE_BYTES, "the size of all slots", TRESTLEPIP_SLOTS * TABLE);
+    printer_start(p, FORM);
+    for (unsigned slot = 0; slot < TRESTLEPIP_SLOTS; slot++) {
+        printer_send(p, selects[slot], NULL, 0);
+        check(p->state[TRESTLEPIP_AT_SELECTED] == slot, "not selected: slot", slot);
+        check(p->state[TRESTLEPIP_AT_LOADED + slot] == (slot == 0), "loaded from the start: slot", slot);
+        load_identity(p);
+        check(p->state[TRESTLEPIP_AT_LOADED + slot] == 1, "not loaded: slot", slot);
+        check(p->tables[slot * TABLE + 0x2D] == 0x2D && p->tables[slot * TABLE + 0xC1] == 0xC1, "not filled: slot", slot);
+    }
+}
+
+/* Loads a record that is as long as the state has room for: it is kept whole, and its length in its count. */
+static void check_kept(struct printer *p, uint8_t command, const uint8_t *record, size_t most, unsigned at, unsigned at_count)
+{
+    check(accepted(printer_send(p, command, record, most)), "the longest record refused, of command", command);
+    check(p->state[at_count] == most && memcmp(p->state + at, record, most) == 0, "not kept whole: the record of command", command);
+    check(!accepted(printer_send(p, command, record, most + 2)), "a longer record accepted, of command", command);
+}
+
+/* The longest FCB is of the longest form at 12 lines per inch, the longest sequence has 8 pairs. */
+static void check_mosts(struct printer *p)
+{
+    uint8_t fcb[TRESTLEPIP_FCB_MOST + 2], sequence[TRESTLEPIP_SEQUENCE_MOST + 2];
+    memset(fcb, 0x30, sizeof fcb);
+    memset(sequence, 1, sizeof sequence);
+    printer_start(p, 288);
+    check_kept(p, TRESTLEPIP_LOAD_FCB, fcb, TRESTLEPIP_FCB_MOST, TRESTLEPIP_AT_FCB, TRESTLEPIP_AT_FCB_COUNT);
+    check_kept(p, TRESTLEPIP_LOAD_OVERLAY_SEQUENCE, sequence, TRESTLEPIP_SEQUENCE_MOST, TRESTLEPIP_AT_SEQUENCE, TRESTLEPIP_AT_SEQUENCE_COUNT);
+}
+
+/* The state ends after its last field: one byte less or more is no state. */
+static void check_end(struct printer *p)
+{
+    uint8_t state[TRESTLEPIP_AFTER_ALL + 1] = {0};
+    printer_start(p, FORM);
+    memcpy(state, p->state, TRESTLEPIP_AFTER_ALL);
+    for (size_t length = TRESTLEPIP_AFTER_ALL - 1; length <= TRESTLEPIP_AFTER_ALL + 1; length++) {
+        uint64_t answer = trestlepip_command(TRESTLEPIP_NO_OP, NULL, 0, NULL, 0, state, length,
+                p->page, sizeof p->page, p->legends, sizeof p->legends, p->tables, sizeof p->tables);
+        unsigned expected = length == TRESTLEPIP_AFTER_ALL ? TRESTLEPIP_ACCEPTED : TRESTLEPIP_BAD_STORE;
+        check(trestlepip_number(answer) == expected, "a state of another size", (unsigned)length);
+    }
+}
+
+/* From line 1 to the line of the channel, which is the one after so many. */
+static void check_skip(struct printer *p, uint8_t command, unsigned channel)
+{
+    uint8_t fcb[FCB_BYTES] = {0};
+    static const uint8_t letter[] = {0xC1};
+    for (unsigned i = 1; i <= 12; i++)
+        fcb[3 + i] = (uint8_t)i;
+    printer_start(p, FORM);
+    printer_send(p, TRESTLEPIP_LOAD_FCB, fcb, sizeof fcb);
+    uint64_t answer = printer_send(p, command, letter, sizeof letter);
+    bool writes = command == TRESTLEPIP_WRITE_SKIP(channel);
+    check(accepted(answer) && trestlepip_lines(answer) == channel && !trestlepip_ready(answer), "no skip: command", command);
+    check(p->state[TRESTLEPIP_AT_LINE] == channel + 1, "another line: command", command);
+    check((p->page[0] != 0) == writes, "written or not: command", command);
+}
+
+static void check_skips(struct printer *p)
+{
+    for (unsigned channel = 1; channel <= 12; channel++) {
+        check_skip(p, (uint8_t)TRESTLEPIP_WRITE_SKIP(channel), channel);
+        check_skip(p, (uint8_t)TRESTLEPIP_SKIP(channel), channel);
+    }
+}
+
+/* A text is one of its own, and not what any other number gets. */
+static void check_texts(const char *(*text)(unsigned), const unsigned *numbers, size_t count)
+{
+    for (size_t i = 0; i < count; i++) {
+        check(strcmp(text(numbers[i]), text(BYTES)) != 0, "no text for", numbers[i]);
+        for (size_t other = 0; other < i; other++)
+            check(strcmp(text(numbers[i]), text(numbers[other])) != 0, "one text for two", numbers[i]);
+    }
+}
+
+static void check_all_texts(void)
+{
+    static const unsigned numbers[] = {0, 1, 2, 3, 4, 5, 6, 7, 8, 9, 10, 11};
+    static const unsigned checks[] = {
+        TRESTLEPIP_SENSE_1_UNPRINTABLE, TRESTLEPIP_SENSE_1_NO_TABLE, TRESTLEPIP_SENSE_1_NO_MATCH, TRESTLEPIP_SENSE_1_MULTIPLE};
+    check_texts(trestlepip_number_text, numbers, TRESTLEPIP_TWO_PAGES + 1);
+    check_texts(trestlepip_cause_text, numbers + 1, TRESTLEPIP_SEGMENT_FIELDS);
+    check_texts(trestlepip_data_check_text, checks, sizeof checks / sizeof *checks);
+}
+
+int main(void)
+{
+    static struct printer p;
+    for (unsigned row = 0; row < ROWS; row++)
+        check_row(&p, row);
+    check_count(&p);
+    check_merges(&p);
+    check_modules(&p);
+    check_slots(&p);
+    check_mosts(&p);
+    check_end(&p);
+    check_skips(&p);
+    check_all_texts();
+    printf("names: %u rows of status and sense, merging, modules, slots, skips and texts, %u faults\n", (unsigned)ROWS, faults());
+    return faults() == 0 ? 0 : 1;
+}
