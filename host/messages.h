@@ -13,7 +13,7 @@
 #define SAYS_LOAD_CHECK "refusal %u, %s, cause %u, %s\n"
 
 #define SAYS_NOT_WRITTEN "the sheets could not be written: %s\n"
-#define SAYS_HOLD_BACK "hold back sheet %zu: %s, page %zu of %zu\n"
+#define SAYS_HOLD_BACK "hold back all copies of sheet %zu: %s, page %zu of %zu\n"
 #define SAYS_HOLD_ALL "hold back every sheet\n"
 #define SAYS_SOME_OUT "stopped: sheets 1 to %zu of %zu are out and good, except those to hold back; the rest did not come whole\n"
 #define SAYS_NONE_OUT "stopped: no sheet is out and good\n"
