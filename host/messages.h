@@ -24,7 +24,7 @@
 #define SAYS_NO_WEIGHTS "%s has no weights\n"
 #define SAYS_MORE_LINES "%s: %zu more bad lines\n"
 #define SAYS_LONG_LINE "%s:%zu: the line is longer than %d bytes\n"
-#define SAYS_NUL "%s:%zu: the line has a byte 00, which is no text\n"
+#define SAYS_CONTROL "%s:%zu: the line has the byte %02X, which is no text\n"
 #define SAYS_QUOTE "%s:%zu: a double quote is not closed, or text follows it\n"
 #define SAYS_FIELDS "%s:%zu: the number of fields is %zu, not 4: place, tag, name, kilograms\n"
 #define SAYS_EMPTY "%s:%zu: the field %s is empty\n"

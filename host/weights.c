@@ -16,7 +16,7 @@
 #include "messages.h"
 #include "morning.h"
 
-enum { LINE_MOST = 1000, FAULTS_SAID = 20, KILOGRAMS_MOST = 9999, BUCKETS = 1 << 14 };
+enum { LINE_MOST = 1000, FAULTS_SAID = 20, KILOGRAMS_MOST = 9999, BUCKETS = 1 << 14, DELETE = 0x7F };
 enum fields { PLACE, TAG, NAME, KILOGRAMS, FIELDS };
 
 /* The fields as the heading and the messages name them, and how many characters they may have. */
@@ -67,11 +67,10 @@ static void drop_byte_order_mark(struct reader *reader)
         memmove(reader->text, reader->text + mark, sizeof reader->text - mark);
 }
 
-static void drop_carriage_return(char *text)
+static void drop_carriage_return(struct reader *reader)
 {
-    size_t length = strlen(text);
-    if (length > 0 && text[length - 1] == '\r')
-        text[length - 1] = '\0';
+    if (reader->length > 0 && reader->text[reader->length - 1] == '\r')
+        reader->text[--reader->length] = '\0';
 }
 
 static char *without_blanks(char *field)
@@ -308,20 +307,32 @@ static void take_text(struct reader *reader)
     char *fields[FIELDS];
     if (reader->line == 1)
         drop_byte_order_mark(reader);
-    drop_carriage_return(reader->text);
     if (!is_passed_over(reader->text))
         take_fields(reader, fields, split(reader->text, fields));
 }
 
+/* The place of the first control character other than a tab, which would go to the screen with a message; the line's length if there is none. */
+static size_t control_at(const struct reader *reader)
+{
+    size_t at = 0;
+    while (at < reader->length && ((unsigned char)reader->text[at] >= ' ' || reader->text[at] == '\t') && reader->text[at] != DELETE)
+        at++;
+    return at;
+}
+
 static void take_line(struct reader *reader)
 {
-    bool is_long = reader->length > LINE_MOST, has_nul = !is_long && strlen(reader->text) < reader->length;
+    bool is_long = reader->length > LINE_MOST;
     if (is_long && is_told(reader))
         fprintf(reader->reports, SAYS_LONG_LINE, reader->file, reader->line, LINE_MOST);
-    if (has_nul && is_told(reader))
-        fprintf(reader->reports, SAYS_NUL, reader->file, reader->line);
-    if (!is_long && !has_nul)
+    if (is_long)
+        return;
+    drop_carriage_return(reader);
+    size_t at = control_at(reader);
+    if (at == reader->length)
         take_text(reader);
+    else if (is_told(reader))
+        fprintf(reader->reports, SAYS_CONTROL, reader->file, reader->line, (unsigned)(unsigned char)reader->text[at]);
 }
 
 /* What the whole file comes to. */
