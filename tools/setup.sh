@@ -36,15 +36,19 @@ stop() { # FORMAT WORD...
     exit 1
 }
 
-# Runs a command in a session of its own, which ends whole if this script is ended.
+# Ends what is left of the session.
+end_session() { kill -s TERM -- "-$child" 2>/dev/null || :; }
+
+# Runs a command in a session of its own, which ends whole: with the command, which may leave something behind, or with this script.
 guarded() { # COMMAND WORD...
     setsid "$@" &
     child=$!
-    trap 'kill -s TERM -- "-$child" 2>/dev/null; exit 129' HUP
-    trap 'kill -s TERM -- "-$child" 2>/dev/null; exit 130' INT
-    trap 'kill -s TERM -- "-$child" 2>/dev/null; exit 143' TERM
+    trap 'end_session; exit 129' HUP
+    trap 'end_session; exit 130' INT
+    trap 'end_session; exit 143' TERM
     ended=0
     wait "$child" || ended=$?
+    end_session
     trap - HUP INT TERM
     return "$ended"
 }
@@ -168,6 +172,7 @@ unproved() { # NAME
 # Removes the stamps of crates that have changed since the library was built: rt proves those anew, and a stamp is then the sign that it has.
 drop_old_stamps() {
     for stamp in target/stamp/*; do
+        [ -e "$stamp" ] || continue
         name=${stamp##*/}
         [ "$(cat "$BUILD/sums/$name" 2>/dev/null)" = "$(crate_sum "$name")" ] || rm -f "$stamp"
     done
