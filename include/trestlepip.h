@@ -170,7 +170,7 @@ enum trestlepip_causes {
 
 /*
  * The fields of an answer. An answer is one 64-bit number: bits 0 to 7 number, 8 to 15 status, 16 page ready, 17 overlay mark, 18 to 23 cause,
- * 24 to 31 lines moved, 32 to 40 copy number; the rest is 0.
+ * 24 to 31 lines moved, 32 to 40 copy number, 41 to 48 first unprintable position, 49 to 63 unprintable positions.
  */
 static inline uint64_t trestlepip_field(uint64_t answer, unsigned low, unsigned bits)
 {
@@ -197,6 +197,15 @@ static inline unsigned trestlepip_lines(uint64_t answer) { return (unsigned)tres
 
 /* The number of the composed copy, up to 509. */
 static inline unsigned trestlepip_copy_number(uint64_t answer) { return (unsigned)trestlepip_field(answer, 32, 9); }
+
+/*
+ * What an accepted write or copy modification load found unprintable; 0 in every other answer. Block hides the data check, and not these. The first
+ * position counts from 1 in the record of a write, or in the text of the first segment that has one; 0 is for none.
+ */
+static inline unsigned trestlepip_first_unprintable(uint64_t answer) { return (unsigned)trestlepip_field(answer, 41, 8); }
+
+/* How many positions were unprintable: in the record of a write, or in the text of all segments. What fills a line after its record never counts. */
+static inline unsigned trestlepip_unprintables(uint64_t answer) { return (unsigned)trestlepip_field(answer, 49, 15); }
 
 /* The bits of a status. An accepted command has ended; a waiting page makes the printer busy. */
 enum trestlepip_status_bits {
