@@ -16,7 +16,7 @@ use Rattle.numbers.proofs.Laws.{accepted-is, isAnew}
 use Rattle.movement.specs.declared.Moved.{Moved}
 use Rattle.movement.specs.Movement.{still, toTop}
 use Rattle.line.specs.declared.Causes.{Causes}
-use Rattle.line.specs.Line.{noCauses}
+use Rattle.line.specs.Line.{noCauses, orUnmatched}
 use Rattle.calls.specs.declared.Sheet.{Sheet}
 use Rattle.calls.specs.declared.State.{State}
 use Rattle.calls.specs.declared.Load.{Load}
@@ -28,7 +28,7 @@ use Rattle.calls.specs.declared.Command.the-variants.{Write, Move, Contr
 use Rattle.calls.specs.Core.{Core, World, started}
 use Rattle.calls.specs.Commands.{Issued, decode, controlTraits, traitsOf, isUnlisted}
 use Rattle.calls.specs.Reset.{blankSheet, resetState, reset, senseBytes}
-use Rattle.calls.specs.Effects.{Effect, nothing, refused, done, movedSheet, moveOf, standing, movedCore, writtenSheet, written, loaded, atLine1, quietly, doMove, doWrite, doLoad, completing, doControl, doCommand}
+use Rattle.calls.specs.Effects.{Effect, nothing, refused, done, movedSheet, moveOf, standing, movedCore, writtenSheet, written, writeCauses, loaded, atLine1, loadCauses, quietly, doMove, doWrite, doLoad, completing, doControl, doCommand}
 use Rattle.calls.specs.Calls.{Call, command, compose, release, movement, refusalOf, doCompose, doRelease, emptied, released, perform, effect, step}
 use Rattle.calls.specs.Premises.{Free}
 use Rattle.calls.proofs.Accepted.{allowed}
@@ -55,10 +55,19 @@ isCompose release = false
 abbrev Waits : Core → Moved → Core → Type 0
 Waits k m k′ = Free k → k′ .state .sheet .waiting ≡ not (eqb (m .pages) 0)
 
--- What every listed command does: No-Op and Sense leave the core and do not move; all others are done, with the movement that `movement` gives.
-pub data Shape (k : Core) (c : Command) (e : Effect) : Type 0 where
-  sets : (k′ : Core) (x : Causes) → traitsOf c .quiet ≡ false → Waits k (movement k c) k′ → e ≡ done k′ x (movement k c) → Shape k c e
-  quiet : (s : SenseStep) (f : Sense → List ℕ) → traitsOf c .quiet ≡ true → movement k c ≡ standing k → e ≡ quietly k s f → Shape k c e
+-- The causes of a data check that a listed command has.
+abbrev pub causesOf : Core → Command → Issued → Causes
+causesOf k (Write m) i = orUnmatched (writeCauses k (i .sent)) (moveOf (k .state) m .missed)
+causesOf k (Move m) i = orUnmatched noCauses (moveOf (k .state) m .missed)
+causesOf k (Controls c) i = noCauses
+causesOf k (Loads l) i = loadCauses k l (i .sent)
+causesOf k Unlisted i = noCauses
+
+-- What every listed command does: No-Op and Sense leave the core and do not move; all others are done, with the causes that `causesOf` gives and
+-- the movement that `movement` gives.
+pub data Shape (k : Core) (c : Command) (i : Issued) (e : Effect) : Type 0 where
+  sets : (k′ : Core) → traitsOf c .quiet ≡ false → Waits k (movement k c) k′ → e ≡ done k′ (causesOf k c i) (movement k c) → Shape k c i e
+  quiet : (s : SenseStep) (f : Sense → List ℕ) → traitsOf c .quiet ≡ true → movement k c ≡ standing k → e ≡ quietly k s f → Shape k c i e
 
 cond-waits : (t : Bool) (a b : Sheet) → a .waiting ≡ false → b .waiting ≡ true → cond t a b .waiting ≡ not t
 cond-waits true a b p q = p
@@ -82,37 +91,37 @@ untouched k CopyModification r = record { fixed = refl; waiting = refl; page = r
 untouched k OverlaySequence r = record { fixed = refl; waiting = refl; page = refl }
 untouched k CopyNumber r = record { fixed = refl; waiting = refl; page = refl }
 
-shape-completing : (k k′ : Core) (due t : Bool) (c : Control) → controlTraits c .completes ≡ true → controlTraits c .quiet ≡ false → (Free k → Free k′)
-    → started (k .state .sheet) ≡ t → Shape k (Controls c) (completing k due k′)
+shape-completing : (k k′ : Core) (due t : Bool) (c : Control) (i : Issued) → controlTraits c .completes ≡ true → controlTraits c .quiet ≡ false → (Free k → Free k′)
+    → started (k .state .sheet) ≡ t → Shape k (Controls c) i (completing k due k′)
 unfolding completing movement traitsOf movedSheet toTop still
-shape-completing k k′ due true c e q f s = sets (movedCore due k toTop) noCauses q (λ w. rw (e, s)) (rw (e, s))
-shape-completing k k′ due false c e q f s = sets k′ noCauses q (λ w. rw (e, s) (f w)) (rw (e, s))
+shape-completing k k′ due true c i e q f s = sets (movedCore due k toTop) q (λ w. rw (e, s)) (rw (e, s))
+shape-completing k k′ due false c i e q f s = sets k′ q (λ w. rw (e, s) (f w)) (rw (e, s))
 
-pub shape : (k : Core) (c : Command) (i : Issued) → isUnlisted c ≡ false → Shape k c (doCommand k c i)
+pub shape : (k : Core) (c : Command) (i : Issued) → isUnlisted c ≡ false → Shape k c i (doCommand k c i)
 unfolding doCommand doControl doWrite doMove doLoad movement traitsOf controlTraits still written writtenSheet reset resetState blankSheet
-shape k (Write m) i e = sets _ _ refl (moved-waits false _ (moveOf (k .state) m)) refl
-shape k (Move m) i e = sets _ _ refl (moved-waits false _ (moveOf (k .state) m)) refl
+shape k (Write m) i e = sets _ refl (moved-waits false _ (moveOf (k .state) m)) refl
+shape k (Move m) i e = sets _ refl (moved-waits false _ (moveOf (k .state) m)) refl
 shape k (Controls NoOp) i e = quiet Keep nothing refl refl refl
 shape k (Controls SenseIo) i e = quiet _ _ refl refl refl
-shape k (Controls Initialize) i e = shape-completing k (reset k) true (started (k .state .sheet)) Initialize refl refl (λ w. refl) refl
-shape k (Controls Clear) i e = shape-completing k k false (started (k .state .sheet)) Clear refl refl (λ w. w) refl
-shape k (Controls Block) i e = sets _ _ refl (λ w. w) refl
-shape k (Controls Allow) i e = sets _ _ refl (λ w. w) refl
-shape k (Controls (Select n)) i e = sets _ _ refl (λ w. w) refl
-shape k (Loads l) i e = sets _ _ refl (λ w. untouched k l (i .sent) .waiting ∙ w) refl
+shape k (Controls Initialize) i e = shape-completing k (reset k) true (started (k .state .sheet)) Initialize i refl refl (λ w. refl) refl
+shape k (Controls Clear) i e = shape-completing k k false (started (k .state .sheet)) Clear i refl refl (λ w. w) refl
+shape k (Controls Block) i e = sets _ refl (λ w. w) refl
+shape k (Controls Allow) i e = sets _ refl (λ w. w) refl
+shape k (Controls (Select n)) i e = sets _ refl (λ w. w) refl
+shape k (Loads l) i e = sets _ refl (λ w. untouched k l (i .sent) .waiting ∙ w) refl
 shape k Unlisted i e = absurd (true≢false e)
 
-performed : (k : Core) (i : Issued) → isAccepted (refusalOf k (command i)) ≡ true → Shape k (decode (i .byte)) (doCommand k (decode (i .byte)) i)
+performed : (k : Core) (i : Issued) → isAccepted (refusalOf k (command i)) ≡ true → Shape k (decode (i .byte)) i (doCommand k (decode (i .byte)) i)
 performed k i e = shape k (decode (i .byte)) i (allowed k i e .known)
 
-pub acted : (k : Core) (i : Issued) → isAccepted (refusalOf k (command i)) ≡ true → Shape k (decode (i .byte)) (effect k (command i))
+pub acted : (k : Core) (i : Issued) → isAccepted (refusalOf k (command i)) ≡ true → Shape k (decode (i .byte)) i (effect k (command i))
 unfolding perform
 acted k i e = rw (accepted-effect k (command i) e) (performed k i e)
 
 -- The answer's refusal is the one that the order gives.
-names-shape : {k : Core} {c : Command} {e : Effect} → Shape k c e → e .answer .refusal ≡ Accepted
+names-shape : {k : Core} {c : Command} {i : Issued} {e : Effect} → Shape k c i e → e .answer .refusal ≡ Accepted
 unfolding done
-names-shape (sets k′ x q w e) = ap (λ (e : Effect). e .answer .refusal) e
+names-shape (sets k′ q w e) = ap (λ (e : Effect). e .answer .refusal) e
 names-shape (quiet s f q m e) = ap (λ (e : Effect). e .answer .refusal) e
 
 names-perform : (k : Core) (c : Call) → isAccepted (refusalOf k c) ≡ true → perform k c .answer .refusal ≡ Accepted
@@ -128,9 +137,9 @@ names w c =
     (λ e. names-perform (w .core) c e ∙ sym (accepted-is _ e)) (λ e. refl)
 
 -- Lines moved: that of the command's movement, which counts the lines entered or looked at, and only Write and Move have any.
-lines-shape : {k : Core} {c : Command} {e : Effect} → Shape k c e → e .answer .lines ≡ movement k c .lines
+lines-shape : {k : Core} {c : Command} {i : Issued} {e : Effect} → Shape k c i e → e .answer .lines ≡ movement k c .lines
 unfolding done still
-lines-shape (sets k′ x q w e) = ap (λ (e : Effect). e .answer .lines) e
+lines-shape (sets k′ q w e) = ap (λ (e : Effect). e .answer .lines) e
 lines-shape (quiet s f q m e) = ap (λ (e : Effect). e .answer .lines) e ∙ sym (ap (λ (v : Moved). v .lines) m)
 
 pub lines-moved : (k : Core) (i : Issued) → isAccepted (refusalOf k (command i)) ≡ true
@@ -156,9 +165,9 @@ lines-of-others k release e = by-outcome (λ (x : Effect). x .answer .lines ≡ 
 abbrev NoCopy : Effect → Type 0
 NoCopy e = (e .answer .copy ≡ 0) × (e .answer .mark ≡ 0)
 
-copy-shape : {k : Core} {c : Command} {e : Effect} → Shape k c e → NoCopy e
+copy-shape : {k : Core} {c : Command} {i : Issued} {e : Effect} → Shape k c i e → NoCopy e
 unfolding done
-copy-shape (sets k′ x q w e) = rw e (refl, refl)
+copy-shape (sets k′ q w e) = rw e (refl, refl)
 copy-shape (quiet s f q m e) = rw e (refl, refl)
 
 pub no-copy : (k : Core) (c : Call) → (isCompose c && isAccepted (refusalOf k c)) ≡ false → NoCopy (effect k c)
@@ -168,9 +177,9 @@ no-copy k (compose n out) e = by-outcome NoCopy k (compose n out) (λ a. absurd 
 no-copy k release e = by-outcome NoCopy k release (λ a. (refl, refl)) (λ a. (refl, refl))
 
 -- Accepted commands except No-Op and Sense set the sense anew.
-anew-shape : {k : Core} {c : Command} {e : Effect} → Shape k c e → traitsOf c .quiet ≡ false → isAnew (e .sense) ≡ true
+anew-shape : {k : Core} {c : Command} {i : Issued} {e : Effect} → Shape k c i e → traitsOf c .quiet ≡ false → isAnew (e .sense) ≡ true
 unfolding done
-anew-shape (sets k′ x q w e) n = rw e
+anew-shape (sets k′ q w e) n = rw e
 anew-shape (quiet s f q m e) n = absurd (true≢false (sym q ∙ n))
 
 pub sets-anew : (k : Core) (i : Issued) → isAccepted (refusalOf k (command i)) ≡ true → traitsOf (decode (i .byte)) .quiet ≡ false
@@ -191,9 +200,9 @@ was-free {w = true} {q = true} n e = absurd (true≢false n)
 was-free {w = true} {q = false} n e = e
 was-free {w = false} n e = refl
 
-ready-shape : {k : Core} {c : Command} {e : Effect} → Shape k c e → (k .state .sheet .waiting && not (traitsOf c .quiet)) ≡ false → ReadyHolds k e
+ready-shape : {k : Core} {c : Command} {i : Issued} {e : Effect} → Shape k c i e → (k .state .sheet .waiting && not (traitsOf c .quiet)) ≡ false → ReadyHolds k e
 unfolding done
-ready-shape {k} (sets k′ x q w h) f = let free : Free k = was-free q f in rw (h, w free, free)
+ready-shape {k} (sets k′ q w h) f = let free : Free k = was-free q f in rw (h, w free, free)
 ready-shape {k} (quiet s f q m h) e = rw h (not-both (k .state .sheet .waiting))
 
 pub released-free : (k : Core) → Free (released k)

@@ -25,8 +25,8 @@ use Rattle.calls.proofs.Answers.{Shape, sets, quiet, shape, was-free}
 use Rattle.calls.proofs.Invariants.{Fixes, fixed-call, Blank, blank-call}
 
 -- What does not count leaves the core: refused calls, No-Op and Sense, Compose.
-quiet-core : {k : Core} {c : Command} {e : Effect} → Shape k c e → traitsOf c .quiet ≡ true → e .core ≡ k
-quiet-core (sets k′ x q w e) h = absurd (true≢false (sym h ∙ q))
+quiet-core : {k : Core} {c : Command} {i : Issued} {e : Effect} → Shape k c i e → traitsOf c .quiet ≡ true → e .core ≡ k
+quiet-core (sets k′ q w e) h = absurd (true≢false (sym h ∙ q))
 quiet-core (quiet s f q m e) h = ap (λ (x : Effect). x .core) e
 
 -- an accepted command that does not count is quiet

@@ -1,3 +1,4 @@
 pub mod Round
 pub mod Sound
 pub mod Fields
+pub mod Fitting

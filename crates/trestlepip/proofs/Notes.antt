@@ -33,10 +33,10 @@ use Rattle.calls.proofs.Invariants.{sized-call}
 use Rattle.calls.proofs.SinceReset.{idle-core}
 use Rattle.state.specs.Packed.{packed}
 use Rattle.state.specs.Host.{heldIn, shown}
+use Rattle.state.proofs.Fitting.{accepted-fits}
 use Rattle.state.proofs.Fields.{fields, number-back}
 use Rattle.trestlepip.specs.Host.{readyIn}
 use Rattle.trestlepip.specs.Notes.{countsBy, finishesBy, dueBy, controlSwitch, commandSwitch, switchBy, Noted, Notes, deedsIn, noteCall, notesOver, notes}
-use Rattle.trestlepip.proofs.Unpacks.{accepted-fits}
 use Rattle.trestlepip.proofs.Steps.{call-steps}
 
 -- What a command leaves of switch and reset, where none is due before it: Block and Allow set the switch, and only an Initialize that completes a page
