@@ -19,11 +19,11 @@ use Rattle.legends.proofs.SegmentLaws.{judged, SoundFirst, rest, tested
 use Rattle.legends.specs.Legends.{headSize, segmentLength, badHead, segmentTests, cut, segments, legendCheck, retext, storedLegends, storedSegments, legendsOk, noLegends, Segment, covers, shown}
 
 -- A segment with its text and nothing after it, and several.
-record Fit (s : List ℕ) : Type 0 where
+pub record Fit (s : List ℕ) : Type 0 where
   pub sound : SoundFirst s
   pub exact : length s ≤ segmentLength s
 
-data Fits : List (List ℕ) → Type 0 where
+pub data Fits : List (List ℕ) → Type 0 where
   end : Fits []
   more : {s : List ℕ} {ss : List (List ℕ)} → Fit s → Fits ss → Fits (s ∷ ss)
 
@@ -39,7 +39,7 @@ cut-fits (suc n) (b ∷ bs) e =
     let t = tested (take (segmentLength (b ∷ bs)) (b ∷ bs)) _ e in
     more (record { sound = t .0; exact = cut-most (b ∷ bs) }) (cut-fits n (rest (b ∷ bs)) (t .1))
 
-segments-fit : (r : List ℕ) → legendCheck r ≡ Sound → Fits (segments r)
+pub segments-fit : (r : List ℕ) → legendCheck r ≡ Sound → Fits (segments r)
 unfolding legendCheck segments
 segments-fit r e = cut-fits (length r) r (passed _ _ faulty e .1)
 

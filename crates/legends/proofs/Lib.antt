@@ -2,3 +2,4 @@ pub mod SegmentLaws
 pub mod LegendLaws
 pub mod StoredLaws
 pub mod ComposeLaws
+pub mod TextLaws

@@ -1,7 +1,7 @@
 -- Walks over a record and over stored legends, segment by segment: what they have found, how they go on and end.
 use Prim.Native.Nat.{ℕ, _+_, _-_, _≤_, _<_}
 use mathlib.Core.Path.{_≡_, refl, sym, ap, _∙_}
-use mathlib.Core.Bool.{Bool, true, false, _&&_, _||_, false≢true, and-true, or-false, or-assoc}
+use mathlib.Core.Bool.{Bool, true, false, _&&_, false≢true, and-true}
 use mathlib.Core.List.{List, [], _∷_, _++_, map, append-assoc, append-nil, flatten}
 use native.Mathlib.Omega.{arith}
 use lib.ListN.{length, getD, take, drop, length-append, length-take, length-drop, drop-of-length-le}
@@ -14,13 +14,14 @@ use Rattle.numbers.specs.declared.Checked.the-variants.{Sound}
 use Rattle.numbers.specs.Sizes.{legendSize}
 use Rattle.numbers.specs.Numbers.{isSound}
 use Rattle.numbers.proofs.Laws.{faulty}
-use Rattle.seq.proofs.Loops.{any-append}
-use Rattle.line.specs.Line.{unprintable, translated, anyUnprintable}
+use Rattle.line.specs.declared.Unprintables.{Unprintables}
+use Rattle.line.specs.Line.{translated, unprintableAt, told}
 use Rattle.line.proofs.LineLaws.{length-translated}
+use Rattle.line.proofs.UnprintableLaws.{unprintable-few}
 use Rattle.legends.proofs.SegmentLaws.{found, judged, rest, SoundFirst, sound-first, byte-set, end-at, rest-at, tests-front, cut-take, cut-end}
 use Rattle.legends.proofs.SegmentLaws.{segments-next, stored-next, judged-sound, judged-faulty, empty-or-sound}
 use Rattle.legends.proofs.LegendLaws.{retext-length}
-use Rattle.legends.specs.Legends.{headSize, segmentLength, segmentTests, cut, segments, legendCheck, retext, storedLegends, legendText}
+use Rattle.legends.specs.Legends.{headSize, segmentLength, segmentTests, cut, segments, legendCheck, retext, storedLegends, unprintableInTexts}
 use Rattle.legends.specs.Legends.{storedSegments, legendsOk}
 
 -- Bytes that begin with the first segment of s are tested as s.
@@ -110,24 +111,36 @@ judged-first s h e = holds _ (λ t. false≢true (sym t ∙ ap isSound (sym (jud
 abbrev stored : (List ℕ → List ℕ) → List ℕ → List ℕ
 stored f s = flatten (map (retext f) (segments s))
 
-any-text : (ps t r q : List ℕ) → anyUnprintable ps t (r ++ q) ≡ (anyUnprintable ps t r || anyUnprintable ps t q)
-unfolding anyUnprintable
-any-text ps t r q = any-append (λ b. unprintable ps (getD t b 0)) r q
-
--- After the segments before `at`: their bytes stand in front, and what is left gives the rest of the store and of the answer.
+-- After the segments before `at`: their bytes stand in front, their unprintable positions are told, and what is left gives the rest of both.
 module _ (ps t sent : List ℕ) where
-  pub record Storing (out : List ℕ) (bad : Bool) (at : ℕ) : Type 0 where
+  abbrev inTexts : List ℕ → List ℕ
+  inTexts r = unprintableInTexts (unprintableAt ps t) r
+
+  pub record Storing (out : List ℕ) (bad : Unprintables) (at : ℕ) : Type 0 where
     pub within : at ≤ length sent
     pub size : length out ≡ legendSize
     pub sound : judged (drop at sent) ≡ Sound
     pub cells : take at out ++ stored (translated ps t) (drop at sent) ≡ stored (translated ps t) sent
-    pub text : (bad || anyUnprintable ps t (legendText (drop at sent))) ≡ anyUnprintable ps t (legendText sent)
+    pub places : List ℕ
+    pub tells : bad ≡ told places
+    pub few : length places ≤ at
+    pub texts : places ++ inTexts (drop at sent) ≡ inTexts sent
 
-  pub storing-start : (out : List ℕ) → length out ≡ legendSize → legendCheck sent ≡ Sound → Storing out false 0
+  pub storing-start : (out : List ℕ) → length out ≡ legendSize → legendCheck sent ≡ Sound → Storing out (told []) 0
   unfolding legendCheck
-  storing-start out l e = record { within = omega arith; size = l; sound = passed _ _ faulty e .1; cells = refl; text = refl }
+  storing-start out l e =
+      record {
+        within = omega arith;
+        size = l;
+        sound = passed _ _ faulty e .1;
+        cells = refl;
+        places = [];
+        tells = refl;
+        few = omega arith;
+        texts = refl;
+      }
 
-  module _ (out : List ℕ) (bad : Bool) (at : ℕ) (more : at < length sent) (so-far : Storing out bad at) where
+  module _ (out : List ℕ) (bad : Unprintables) (at : ℕ) (more : at < length sent) (so-far : Storing out bad at) where
     abbrev left : List ℕ
     left = drop at sent
 
@@ -156,9 +169,16 @@ module _ (ps t sent : List ℕ) where
       segments-at : segments left ≡ first ∷ segments (drop (at + m) sent)
       segments-at = segments-next left some ∙ λ i. take (sym e i) left ∷ segments (rest-at sent at m e i)
 
-      step : Storing (take at out ++ (cells-of ++ drop m (drop at out))) (bad || anyUnprintable ps t (drop headSize first)) (at + m)
-      unfolding flatten legendText
-      step =
+      -- the positions told of this segment
+      abbrev here : List ℕ
+      here = unprintableAt ps t (drop headSize first)
+
+      pub here-few : length here ≤ m
+      here-few = omega (arith, unprintable-few ps t (drop headSize first), length-drop headSize first, first-length)
+
+      step : (b : Unprintables) → b ≡ told (so-far .places ++ here) → Storing (take at out ++ (cells-of ++ drop m (drop at out))) b (at + m)
+      unfolding flatten unprintableInTexts
+      step b told-here =
           let next = rest-at sent at m e in
           let end = end-at sent at m e storing-first in
           let q = drop m (drop at out) in
@@ -177,21 +197,22 @@ module _ (ps t sent : List ℕ) where
                 ∙ append-assoc (take at out) cells-of (stored f (drop (at + m) sent))
                 ∙ ap (λ (ss : List (List ℕ)). take at out ++ flatten (map (retext f) ss)) (sym segments-at)
                 ∙ so-far .cells;
-            text =
-                or-assoc bad _ _
-                ∙ ap (λ (b : Bool). bad || b)
-                (sym (any-text ps t (drop headSize first) (legendText (drop (at + m) sent)))
-                ∙ ap (λ (ss : List (List ℕ)). anyUnprintable ps t (flatten (map (drop headSize) ss))) (sym segments-at))
-                ∙ so-far .text;
+            places = so-far .places ++ here;
+            tells = told-here;
+            few = omega (arith, length-append (so-far .places) here, so-far .few, here-few);
+            texts =
+                append-assoc (so-far .places) here (inTexts (drop (at + m) sent))
+                ∙ ap (λ (ss : List (List ℕ)). so-far .places ++ flatten (map (λ s. unprintableAt ps t (drop headSize s)) ss)) (sym segments-at)
+                ∙ so-far .texts;
           }
 
-      pub storing-more : (ys : List ℕ) (b : Bool) → ys ≡ cells-of → b ≡ anyUnprintable ps t (drop headSize first)
-          → Storing (take at out ++ (ys ++ drop m (drop at out))) (bad || b) (at + m)
-      storing-more ys b y u = rw (y, u) step
+      pub storing-more : (ys : List ℕ) (b : Unprintables) → ys ≡ cells-of → b ≡ told (so-far .places ++ here)
+          → Storing (take at out ++ (ys ++ drop m (drop at out))) b (at + m)
+      storing-more ys b y u = rw y (step b u)
 
-  pub storing-end : (out : List ℕ) (bad : Bool) (at : ℕ) → length sent ≤ legendSize → length sent ≤ at → Storing out bad at
-      → (take (length sent) out ++ zeros (legendSize - length sent) ≡ storedLegends (translated ps t) sent) × (bad ≡ anyUnprintable ps t (legendText sent))
-  unfolding storedLegends padded legendText anyUnprintable segments cut flatten
+  pub storing-end : (out : List ℕ) (bad : Unprintables) (at : ℕ) → length sent ≤ legendSize → length sent ≤ at → Storing out bad at
+      → (take (length sent) out ++ zeros (legendSize - length sent) ≡ storedLegends (translated ps t) sent) × (bad ≡ told (inTexts sent))
+  unfolding storedLegends padded unprintableInTexts segments cut flatten
   storing-end out bad at room over so-far =
       let n = length sent in
       let f = translated ps t in
@@ -201,5 +222,5 @@ module _ (ps t sent : List ℕ) where
       sym (append-nil (take n out)) ∙ (λ i. take (end i) out ++ stored f (none i)) ∙ so-far .cells in
       let size : n ≡ length (stored f sent) = sym (length-take-le n out (omega (arith, so-far .size))) ∙ ap length cells in (
         λ i. cells i ++ zeros (legendSize - size i),
-        sym (or-false bad) ∙ ap (λ (r : List ℕ). bad || anyUnprintable ps t (legendText r)) none ∙ so-far .text,
+        so-far .tells ∙ ap told (sym (append-nil (so-far .places)) ∙ ap (λ (r : List ℕ). so-far .places ++ inTexts r) none ∙ so-far .texts),
       )

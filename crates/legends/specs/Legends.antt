@@ -79,9 +79,10 @@ retext f s = take headSize s ++ f (drop headSize s)
 unfoldable pub storedLegends : (List ℕ → List ℕ) → List ℕ → List ℕ
 storedLegends f r = padded legendSize (flatten (map (retext f) (segments r)))
 
--- All text of a record, for its data checks.
-unfoldable pub legendText : List ℕ → List ℕ
-legendText r = flatten (map (drop headSize) (segments r))
+-- T-01: the unprintable positions of a record's texts, one segment's after another's; those of a text, from 1, are here given by f. So the first of all
+-- is the place in the text of the first segment that has one.
+unfoldable pub unprintableInTexts : (List ℕ → List ℕ) → List ℕ → List ℕ
+unprintableInTexts f r = flatten (map (λ s. f (drop headSize s)) (segments r))
 
 -- Stored legends: their segments end before a first byte of 00, or at the end of the store.
 unfoldable pub storedSegments : List ℕ → List (List ℕ)

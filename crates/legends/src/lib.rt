@@ -1,6 +1,7 @@
 // Document 01, "Copies and legends": legend records, their check, the check of stored legends, and the store of a load.
 pub mod compose;
 
+use line::Unprintables;
 use numbers::Cause;
 use numbers::Checked;
 use numbers::Stores;
@@ -13,9 +14,9 @@ ghost use Rattle.seq.specs.Words.{firstOr};
 ghost use Rattle.numbers.specs.Sizes.{legendSize, slotSize};
 ghost use Rattle.numbers.specs.Numbers.{isSound};
 ghost use Rattle.numbers.specs.declared.Checked.the-variants.{Sound};
-ghost use Rattle.line.specs.Line.{translated, anyUnprintable};
+ghost use Rattle.line.specs.Line.{translated, unprintableAt, told};
 ghost use Rattle.legends.specs.Legends.{headSize, segmentLength, badHead, segmentTests, segments, legendCheck, legendsOk};
-ghost use Rattle.legends.specs.Legends.{retext, storedLegends, legendText};
+ghost use Rattle.legends.specs.Legends.{retext, storedLegends, unprintableInTexts};
 
 // The bytes of a segment before its text.
 const HEAD_BYTES: usize = 6;
@@ -97,33 +98,40 @@ pub fn legends_ok(legends: &[u8]) -> bool
     seq::zero_from(legends, at)
 }
 
-// One segment of a load: its head, and its text through the table. Says whether anything in the text was unprintable.
-fn store_segment(to: &mut [u8], from: &[u8], pitches: [u8; 4], table: &[u8]) -> bool
+// One segment of a load: its head, and its text through the table. Tells the unprintable positions of the text.
+fn store_segment(to: &mut [u8], from: &[u8], pitches: [u8; 4], table: &[u8]) -> Unprintables
     requires { ⌜ (length (now to) ≡ length (now from)) × (headSize ≤ length (now from)) ⌝ }
+    requires { ⌜ length (now from) ≤ headSize + 255 ⌝ }
     requires { ⌜ length (now table) ≡ slotSize ⌝ }
     ensures to { λ _. ⌜ now (to .exit) ≡ retext (translated pitches (now (table .entry))) (now (from .entry)) ⌝ }
-    ensures found { λ r. ⌜ r ≡ anyUnprintable pitches (now (table .entry)) (drop headSize (now (from .entry))) ⌝ }
+    ensures found { λ r. ⌜ r ≡ told (unprintableAt pitches (now (table .entry)) (drop headSize (now (from .entry)))) ⌝ }
 {
     let n = from.len();
     seq::copy_all(&mut to[0..HEAD_BYTES], &from[0..HEAD_BYTES]);
     line::translate::translate(&mut to[HEAD_BYTES..n], &from[HEAD_BYTES..n], pitches, table)
 }
 
-// All segments of a record that passed, and 00 after them. Says whether anything in their text was unprintable.
-pub fn store_legends(legends: &mut [u8], sent: &[u8], pitches: [u8; 4], table: &[u8]) -> bool
+// All segments of a record that passed, and 00 after them. Tells the unprintable positions of their texts.
+pub fn store_legends(
+    legends: &mut [u8],
+    sent: &[u8],
+    pitches: [u8; 4],
+    table: &[u8],
+) -> Unprintables
     requires { ⌜ length (now legends) ≡ legendSize ⌝ }
     requires { ⌜ length (now sent) ≤ legendSize ⌝ }
     requires { ⌜ legendCheck (now sent) ≡ Sound ⌝ }
     requires { ⌜ length (now table) ≡ slotSize ⌝ }
     ensures legends { λ _. ⌜ now (legends .exit) ≡ storedLegends (translated pitches (now (table .entry))) (now (sent .entry)) ⌝ }
-    ensures found { λ r. ⌜ r ≡ anyUnprintable pitches (now (table .entry)) (legendText (now (sent .entry))) ⌝ }
+    ensures found { λ r. ⌜ r ≡ told (unprintableInTexts (unprintableAt pitches (now (table .entry))) (now (sent .entry))) ⌝ }
 {
     let n = sent.len();
-    let mut found = false;
+    let mut found = Unprintables::NONE;
     let mut at = 0;
     while at < n {
         let end = at + segment_length(sent, at);
-        found = found | store_segment(&mut legends[at..end], &sent[at..end], pitches, table);
+        let here = store_segment(&mut legends[at..end], &sent[at..end], pitches, table);
+        found = found.then(here);
         at = end;
     }
     seq::fill(&mut legends[n..Stores::LEGEND_BYTES], 0);

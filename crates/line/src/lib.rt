@@ -5,10 +5,11 @@ pub mod translate;
 
 use numbers::Stores;
 ghost use mathlib.Core.Path.{_≡_};
-ghost use Prim.Native.Nat.{_≤_};
+ghost use mathlib.Core.List.{List, _++_};
+ghost use Prim.Native.Nat.{ℕ, _+_, _≤_};
 ghost use lib.ListN.{length};
 ghost use Rattle.numbers.specs.Sizes.{lineWidth, pageLines, pageSize, slotSize, tableSize};
-ghost use Rattle.line.specs.Line.{serving, anyUnprintable, lineCells, lineAt, pageWritten};
+ghost use Rattle.line.specs.Line.{serving, unprintableAt, told, lineCells, lineAt, pageWritten};
 ghost use Rattle.line.specs.Line.{lineCauses, orUnmatched, causeByte};
 
 // The four table slots: which are loaded, and which is selected. Their bytes are a lent store.
@@ -25,9 +26,30 @@ impl Slots {
     };
 }
 
+// What is told of the unprintable positions of a text: the first of them, from 1, or 0 for none; and how many there are.
+pub struct Unprintables {
+    pub first: u8,
+    pub count: u16,
+}
+
+impl Unprintables {
+    pub const NONE: Unprintables = Unprintables { first: 0, count: 0 };
+
+    // Of this text, and then of the next.
+    pub fn then(self, next: Unprintables) -> Unprintables
+        requires { ⌜ self .count + next .count ≤ 0xFFFF ⌝ }
+        ensures { λ r. ⌜ ((ns ms : List ℕ) → self ≡ told ns → next ≡ told ms → r ≡ told (ns ++ ms)) ⌝ }
+    {
+        Unprintables {
+            first: seq::pick(self.count == 0, next.first, self.first),
+            count: self.count + next.count,
+        }
+    }
+}
+
 // The causes of a data check: 80, 20, 10 and 08 of sense byte 1.
 pub struct Causes {
-    pub unprintable: bool,
+    pub unprintables: Unprintables,
     pub unloaded: bool,
     pub unmatched: bool,
     pub collision: bool,
@@ -35,20 +57,20 @@ pub struct Causes {
 
 impl Causes {
     pub const NONE: Causes = Causes {
-        unprintable: false,
+        unprintables: Unprintables::NONE,
         unloaded: false,
         unmatched: false,
         collision: false,
     };
 }
 
-// All cells of a line: the record's, and the stand-in after them. Says whether anything in the record was unprintable.
-fn make_line(cells: &mut [u8], sent: &[u8], pitches: [u8; 4], table: &[u8]) -> bool
+// All cells of a line: the record's, and the stand-in after them. Tells the unprintable positions of the record.
+fn make_line(cells: &mut [u8], sent: &[u8], pitches: [u8; 4], table: &[u8]) -> Unprintables
     requires { ⌜ length (now cells) ≡ lineWidth ⌝ }
     requires { ⌜ length (now sent) ≤ lineWidth ⌝ }
     requires { ⌜ length (now table) ≡ slotSize ⌝ }
     ensures cells { λ _. ⌜ now (cells .exit) ≡ lineCells pitches (now (table .entry)) (now (sent .entry)) ⌝ }
-    ensures found { λ r. ⌜ r ≡ anyUnprintable pitches (now (table .entry)) (now (sent .entry)) ⌝ }
+    ensures found { λ r. ⌜ r ≡ told (unprintableAt pitches (now (table .entry)) (now (sent .entry))) ⌝ }
 {
     let n = sent.len();
     seq::fill(cells, translate::stand_in(pitches, table));
@@ -81,18 +103,18 @@ pub fn write_line(
     let unloaded = !tables::is_loaded(slots);
     if later {
         let mut cells = [0u8; Stores::LINE_CELLS];
-        let unprintable = make_line(&mut cells, sent, pitches, table);
+        let unprintables = make_line(&mut cells, sent, pitches, table);
         let collision = merge::merge(&mut page[at..end], &cells);
         return Causes {
-            unprintable: unprintable,
+            unprintables: unprintables,
             unloaded: unloaded,
             unmatched: false,
             collision: collision,
         };
     }
-    let unprintable = make_line(&mut page[at..end], sent, pitches, table);
+    let unprintables = make_line(&mut page[at..end], sent, pitches, table);
     Causes {
-        unprintable: unprintable,
+        unprintables: unprintables,
         unloaded: unloaded,
         unmatched: false,
         collision: false,
@@ -102,8 +124,9 @@ pub fn write_line(
 pub fn or_unmatched(causes: Causes, missed: bool) -> Causes
     ensures { λ r. ⌜ r ≡ orUnmatched causes missed ⌝ }
 {
+    let unprintables = causes.unprintables;
     Causes {
-        unprintable: causes.unprintable,
+        unprintables: unprintables,
         unloaded: causes.unloaded,
         unmatched: missed,
         collision: causes.collision,
@@ -114,7 +137,7 @@ pub fn or_unmatched(causes: Causes, missed: bool) -> Causes
 pub fn cause_byte(blocked: bool, causes: Causes) -> u8
     ensures { λ r. ⌜ r ≡ causeByte blocked causes ⌝ }
 {
-    let unprintable = seq::flag(causes.unprintable & !blocked, 0x80);
+    let unprintable = seq::flag((causes.unprintables.count != 0) & !blocked, 0x80);
     let unloaded = seq::flag(causes.unloaded, 0x20);
     let unmatched = seq::flag(causes.unmatched, 0x10);
     let collision = seq::flag(causes.collision & !blocked, 0x08);

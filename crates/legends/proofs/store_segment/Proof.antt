@@ -1,11 +1,11 @@
 -- The head is copied and the rest translated: both parts together are the segment.
-use Prim.Native.Nat.{_-_}
+use Prim.Native.Nat.{ℕ, _-_}
 use mathlib.Core.Path.{_≡_, ap, _∙_}
-use mathlib.Core.List.{append-nil}
+use mathlib.Core.List.{List, append-nil}
 use lib.ListN.{length, drop, length-drop, drop-of-length-le}
 use lib.Seq.{take-at, drop-at, length-take-le}
 use Rattle.seq.proofs.Laws.{take-rest}
-use Rattle.line.specs.Line.{anyUnprintable}
+use Rattle.line.specs.Line.{unprintableAt, told}
 use Rattle.legends.specs.Legends.{headSize}
 use borrow.Author.Needs.{needs}
 use Rattle.legends.proofs.store_segment.Statement.{statement}
@@ -22,7 +22,7 @@ returns c =
     let head : length x ≡ headSize = ap length (k .ensures) ∙ length-take-le headSize (a .from .now) (search needs) in
     let none = drop-of-length-le q {i = length (a .from .now) - headSize} (rw length-drop (search needs)) in (
       rw (take-at x q headSize head, drop-at x q headSize head, none, append-nil (u .last .0), k .ensures, u .ensures .0, text),
-      u .ensures .1 ∙ ap (anyUnprintable (a .pitches) (a .table .now)) text,
+      u .ensures .1 ∙ ap (λ (r : List ℕ). told (unprintableAt (a .pitches) (a .table .now) r)) text,
     )
 
 pub store-segment-spec : {M : Type 1} → statement M
