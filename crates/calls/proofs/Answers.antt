@@ -111,7 +111,7 @@ shape k (Controls (Select n)) i e = sets _ refl (λ w. w) refl
 shape k (Loads l) i e = sets _ refl (λ w. untouched k l (i .sent) .waiting ∙ w) refl
 shape k Unlisted i e = absurd (true≢false e)
 
-performed : (k : Core) (i : Issued) → isAccepted (refusalOf k (command i)) ≡ true → Shape k (decode (i .byte)) i (doCommand k (decode (i .byte)) i)
+pub performed : (k : Core) (i : Issued) → isAccepted (refusalOf k (command i)) ≡ true → Shape k (decode (i .byte)) i (doCommand k (decode (i .byte)) i)
 performed k i e = shape k (decode (i .byte)) i (allowed k i e .known)
 
 pub acted : (k : Core) (i : Issued) → isAccepted (refusalOf k (command i)) ≡ true → Shape k (decode (i .byte)) i (effect k (command i))

@@ -8,7 +8,7 @@ use Rattle.seq.specs.Words.{from, zeros, when, firstOr, every, padded}
 use Rattle.numbers.specs.Sizes.{lineWidth, lineBytes, pageSize, legendSize, slotSize, tableSize, senseSize}
 use Rattle.numbers.specs.declared.Sense.{Sense}
 use Rattle.numbers.specs.declared.Answer.{Answer}
-use Rattle.numbers.specs.declared.Cause.the-variants.{FcbSpacing, FcbSum, SequenceCounts, SegmentFields}
+use Rattle.numbers.specs.declared.Cause.the-variants.{FcbSpacing, FcbSum, SequenceCounts, SegmentEnds, SegmentFields}
 use Rattle.numbers.specs.declared.Refusal.{Refusal}
 use Rattle.numbers.specs.declared.Refusal.the-variants.{Accepted, LoadCheck, PageWaiting, PageStarted, BadForm}
 use Rattle.numbers.specs.Numbers.{sense3, noSense, causeOf, rowOf, isAccepted, checked, isSound}
@@ -16,10 +16,10 @@ use Rattle.form.specs.declared.Forms.{Forms}
 use Rattle.form.specs.Form.{formLengths, pitchesListed, pitchesOk, formOk, unitsOf, runsFrom, runs, unitsTotal, linesWhere, printable, edges, fcbCheck, layoutCheck, layoutOf, channelAt, startFcb, fcbSize, formsOf, formsInRange}
 use Rattle.movement.specs.Movement.{entered, round, upToFirst, spaced, skipped, moved, still, toTop}
 use Rattle.line.specs.declared.Slots.{Slots}
-use Rattle.line.specs.Line.{slotAt, putSlot, isLoaded, serving, unprintable, standIn, cellOf, translated, anyUnprintable, lineCells, mergeRules, mergeCell, collides, mergeLine, anyCollides, lineAt, putLine, pageWritten, noCauses, lineCauses, orUnmatched, causeByte, startTable, startTables, startSlots, slotsInRange}
+use Rattle.line.specs.Line.{slotAt, putSlot, isLoaded, serving, unprintable, standIn, cellOf, translated, unprintableAt, lineCells, mergeRules, mergeCell, collides, mergeLine, anyCollides, lineAt, putLine, pageWritten, noCauses, textCauses, lineCauses, orUnmatched, causeByte, startTable, startTables, startSlots, slotsInRange}
 use Rattle.copies.specs.declared.Copies.{Copies}
 use Rattle.copies.specs.Copies.{pairSize, tableCheck, pairsOf, copiesOf, sequenceCheck, markIn, numberCheck, withSequence, withReference, startCopies, copyCount, copyNumber, copyMark, copiesInRange}
-use Rattle.legends.specs.Legends.{segmentOf, badHead, cut, segments, legendCheck, storedLegends, legendText, storedSegments, legendsOk, noLegends, covers, shown, copyFrom, composed}
+use Rattle.legends.specs.Legends.{segmentOf, badHead, cut, segments, legendCheck, storedLegends, unprintableInTexts, storedSegments, legendsOk, noLegends, covers, shown, copyFrom, composed}
 use Rattle.calls.specs.declared.Sheet.{Sheet}
 use Rattle.calls.specs.declared.State.{State}
 use Rattle.calls.specs.Core.{Stores, World, withBlocked, withForms, withSlots, withCopies, sizesOk, linesNow, started}
@@ -73,12 +73,13 @@ copySize = lineBytes * 15
 abbrev copy : ℕ → Call
 copy n = compose n (zeros copySize)
 
--- Answers: refusal, status, page ready, lines moved; Compose's copy number and mark; most often, 0C alone, or a page completed; a Release's.
+-- Answers: refusal, status, page ready, lines moved; Compose's copy number and mark; most often, 0C alone, or a page completed; a Release's. And one
+-- that also tells the first unprintable position and how many there are.
 abbrev says : Refusal → ℕ → Bool → ℕ → Answer
-says x s r n = record { refusal = x; status = s; ready = r; lines = n; copy = 0; mark = 0 }
+says x s r n = record { refusal = x; status = s; ready = r; lines = n; copy = 0; mark = 0; first = 0; count = 0 }
 
 abbrev copied : ℕ → ℕ → Answer
-copied n m = record { refusal = Accepted; status = 0; ready = false; lines = 0; copy = n; mark = m }
+copied n m = record { refusal = Accepted; status = 0; ready = false; lines = 0; copy = n; mark = m; first = 0; count = 0 }
 
 abbrev fine : Answer
 fine = says Accepted 0x0C false 0
@@ -88,6 +89,12 @@ completes n = says Accepted 0x0C true n
 
 abbrev freed : Answer
 freed = says Accepted 0 false 0
+
+abbrev telling : ℕ → ℕ → Answer → Answer
+telling f n a = record { refusal = a .refusal; status = a .status; ready = a .ready; lines = a .lines; copy = a .copy; mark = a .mark; first = f; count = n }
+
+abbrev checks : Answer
+checks = says Accepted 0x0E false 0
 
 -- Bytes with 00 after them, n in all.
 abbrev filled : ℕ → List ℕ → List ℕ
@@ -159,12 +166,12 @@ rows =
     -- R1
     after [] (with 0x01 (0xC1 ∷ [])) fine noSense (on writing) (page (1 ∷ []))
     -- R2
-    ∷ after (with 0x01 (0xC1 ∷ []) ∷ []) (with 0x01 (0xC2 ∷ [])) (says Accepted 0x0E false 0) (sense3 0x08 0x08 0) (on writing) (page (1 ∷ []))
+    ∷ after (with 0x01 (0xC1 ∷ []) ∷ []) (with 0x01 (0xC2 ∷ [])) checks (sense3 0x08 0x08 0) (on writing) (page (1 ∷ []))
     ∷ after (cmd 0x73 ∷ with 0x01 (0xC1 ∷ []) ∷ []) (with 0x01 (0xC2 ∷ [])) fine noSense (withBlocked (on writing) true) (page (1 ∷ []))
     -- R3
     ∷ after (with 0x01 (0xC1 ∷ []) ∷ []) (with 0x01 (0x6D ∷ [])) fine noSense (on writing) (page (1 ∷ []))
     -- R4
-    ∷ after [] (with 0x01 (0x3F ∷ [])) (says Accepted 0x0E false 0) (sense3 0x08 0x80 0) (on writing) (page [])
+    ∷ after [] (with 0x01 (0x3F ∷ [])) (telling 1 1 checks) (sense3 0x08 0x80 0) (on writing) (page [])
     -- R5
     ∷ row (replicate 14 (cmd 0x0B)) (replicate 14 (says Accepted 0x0C false 1)) [] noSense (on (at 15)) (page [])
     ∷ row (replicate 13 (cmd 0x0B) ++ (cmd 0x1B ∷ [])) (replicate 13 (says Accepted 0x0C false 1) ++ (completes 2 ∷ [])) [] noSense (on (waiting 1)) (page [])
@@ -173,7 +180,7 @@ rows =
     -- R7
     ∷ after [] (cmd 0x93) (says Accepted 0x0E true 15) (sense3 0x08 0x10 0) (on (waiting 1)) (page [])
     -- R8
-    ∷ after (cmd 0x57 ∷ []) (with 0x01 (0xC1 ∷ [])) (says Accepted 0x0E false 0) (sense3 0x08 0x20 0) (withSlots (on writing) (slot 1)) (page (1 ∷ []))
+    ∷ after (cmd 0x57 ∷ []) (with 0x01 (0xC1 ∷ [])) checks (sense3 0x08 0x20 0) (withSlots (on writing) (slot 1)) (page (1 ∷ []))
     -- R9
     ∷ after [] (with 0x63 (zeros 20)) (says (LoadCheck FcbSpacing) 0x0E false 0) (sense3 0x02 0x40 0) (on (at 1)) (page [])
     ∷ after [] (with 0x63 (zeros 18)) (says (LoadCheck FcbSum) 0x0E false 0) (record { b0 = 0x02; b1 = 0x08; b2 = 0; b22 = 0; b23 = 0x12 }) (on (at 1)) (page [])
@@ -213,6 +220,17 @@ sensing cs answers byte3 s = row (cs ++ (senseIo ∷ [])) (answers ++ (fine ∷ 
 abbrev someTable : List ℕ
 someTable = zeros 64 ++ 0xC5 ∷ zeros 128 ++ (0x41 ∷ [])
 
+-- A table whose code for 40 is FF, all others 00.
+abbrev blankless : List ℕ
+blankless = zeros 64 ++ (0xFF ∷ [])
+
+-- Three segments: their text is A B; A and a byte that is unprintable; two such. And as they are stored.
+abbrev threeTexts : List ℕ
+threeTexts = 1 ∷ 1 ∷ 1 ∷ 1 ∷ 1 ∷ 2 ∷ 0xC1 ∷ 0xC2 ∷ 1 ∷ 1 ∷ 2 ∷ 1 ∷ 1 ∷ 2 ∷ 0xC1 ∷ 0x3F ∷ 1 ∷ 1 ∷ 3 ∷ 1 ∷ 1 ∷ 2 ∷ 0x3F ∷ 0x00 ∷ []
+
+abbrev threeStored : List ℕ
+threeStored = 1 ∷ 1 ∷ 1 ∷ 1 ∷ 1 ∷ 2 ∷ 1 ∷ 2 ∷ 1 ∷ 1 ∷ 2 ∷ 1 ∷ 1 ∷ 2 ∷ 1 ∷ 0 ∷ 1 ∷ 1 ∷ 3 ∷ 1 ∷ 1 ∷ 2 ∷ 0 ∷ 0 ∷ []
+
 -- Rows of our own, for rules that R1 to R12 leave unseen.
 unfoldable pub ours : List Row
 ours =
@@ -227,8 +245,8 @@ ours =
     (filled copySize (3 ∷ [])) noSense (on (waiting 1)) (page (3 ∷ []))
     -- A reset forgets the selection, and keeps the check switch; so does the reset that a Release does.
     ∷ after (cmd 0x57 ∷ cmd 0x37 ∷ []) (with 0x01 (0xC1 ∷ [])) fine noSense (on writing) (page (1 ∷ []))
-    ∷ after (cmd 0x73 ∷ cmd 0x37 ∷ []) (with 0x01 (0x3F ∷ [])) fine noSense (withBlocked (on writing) true) (page [])
-    ∷ row (cmd 0x73 ∷ with 0x01 (0xC1 ∷ []) ∷ cmd 0x37 ∷ release ∷ with 0x01 (0x3F ∷ []) ∷ []) (fine ∷ fine ∷ completes 0 ∷ freed ∷ fine ∷ []) [] noSense
+    ∷ after (cmd 0x73 ∷ cmd 0x37 ∷ []) (with 0x01 (0x3F ∷ [])) (telling 1 1 fine) noSense (withBlocked (on writing) true) (page [])
+    ∷ row (cmd 0x73 ∷ with 0x01 (0xC1 ∷ []) ∷ cmd 0x37 ∷ release ∷ with 0x01 (0x3F ∷ []) ∷ []) (fine ∷ fine ∷ completes 0 ∷ freed ∷ telling 1 1 fine ∷ []) [] noSense
     (withBlocked (on writing) true) (page [])
     -- Release keeps the line to which a skip has led.
     ∷ row (with 0x63 channel5 ∷ cmd 0x13 ∷ cmd 0x1B ∷ cmd 0xAB ∷ release ∷ []) (fine ∷ says Accepted 0x0C false 2 ∷ says Accepted 0x0C false 3 ∷ completes 14 ∷ freed ∷ []) [] noSense
@@ -250,16 +268,26 @@ ours =
     -- Page waiting comes before a record that is too long, and keeps the sense.
     ∷ row (cmd 0x93 ∷ with 0x01 (zeros (lineWidth + 1)) ∷ []) (says Accepted 0x0E true 15 ∷ says PageWaiting 0x10 false 0 ∷ []) [] (sense3 0x08 0x10 0) (on (waiting 1)) (page [])
     -- Causes of a write and of its skip are joined; Block hides 80 and 08 alone.
-    ∷ row (cmd 0x57 ∷ with 0x01 (0xC1 ∷ []) ∷ with 0x91 (0xC2 ∷ 0x3F ∷ []) ∷ []) (fine ∷ says Accepted 0x0E false 0 ∷ says Accepted 0x0E true 15 ∷ []) [] (sense3 0x08 0xB8 0)
+    ∷ row (cmd 0x57 ∷ with 0x01 (0xC1 ∷ []) ∷ with 0x91 (0xC2 ∷ 0x3F ∷ []) ∷ []) (fine ∷ checks ∷ telling 2 1 (says Accepted 0x0E true 15) ∷ []) [] (sense3 0x08 0xB8 0)
     (withSlots (on (waiting 1)) (slot 1)) (page (1 ∷ []))
-    ∷ row (cmd 0x73 ∷ cmd 0x57 ∷ with 0x01 (0xC1 ∷ []) ∷ with 0x91 (0xC2 ∷ 0x3F ∷ []) ∷ []) (fine ∷ fine ∷ says Accepted 0x0E false 0 ∷ says Accepted 0x0E true 15 ∷ []) [] (sense3 0x08 0x30 0)
+    ∷ row (cmd 0x73 ∷ cmd 0x57 ∷ with 0x01 (0xC1 ∷ []) ∷ with 0x91 (0xC2 ∷ 0x3F ∷ []) ∷ []) (fine ∷ fine ∷ checks ∷ telling 2 1 (says Accepted 0x0E true 15) ∷ []) [] (sense3 0x08 0x30 0)
     (withBlocked (withSlots (on (waiting 1)) (slot 1)) true) (page (1 ∷ []))
     -- Channels 9 and 12 are reported on lines that a space enters, and not by a skip.
     ∷ after (with 0x63 channels ∷ []) (cmd 0x13) (says Accepted 0x0F false 2) (sense3 0x01 0 0) (withForms (on (at 3)) (fcb channels)) (page [])
     ∷ after (with 0x63 channels ∷ []) (cmd 0xCB) (says Accepted 0x0C false 1) noSense (withForms (on (at 2)) (fcb channels)) (page [])
     -- A code of a module not fitted gets the table's code for 40, and so does the fill.
-    ∷ after (with 0x83 (filled slotSize someTable) ∷ []) (with 0x01 (0xC1 ∷ 0xC2 ∷ [])) (says Accepted 0x0E false 0) (sense3 0x08 0x80 0) (pitched (10 ∷ 0 ∷ 0 ∷ 10 ∷ []) writing)
+    ∷ after (with 0x83 (filled slotSize someTable) ∷ []) (with 0x01 (0xC1 ∷ 0xC2 ∷ [])) (telling 1 1 checks) (sense3 0x08 0x80 0) (pitched (10 ∷ 0 ∷ 0 ∷ 10 ∷ []) writing)
     (stores (0xC5 ∷ 0 ∷ replicate (lineWidth - 2) 0xC5) [] someTable)
+    -- T-01: the first unprintable position and how many, Block or no Block; the fill, which the table makes FF, does not count; table 0 decides for an
+    -- unloaded one.
+    ∷ after [] (with 0x01 (0xC1 ∷ 0x3F ∷ 0xC2 ∷ 0x00 ∷ [])) (telling 2 2 checks) (sense3 0x08 0x80 0) (on writing) (page (1 ∷ 0 ∷ 2 ∷ []))
+    ∷ after (cmd 0x73 ∷ []) (with 0x01 (0xC1 ∷ 0x3F ∷ 0xC2 ∷ 0x00 ∷ [])) (telling 2 2 fine) noSense (withBlocked (on writing) true) (page (1 ∷ 0 ∷ 2 ∷ []))
+    ∷ after (with 0x83 (filled slotSize blankless) ∷ []) (with 0x01 (0xC1 ∷ [])) fine noSense (on writing) (stores [] [] blankless)
+    ∷ after (cmd 0x57 ∷ []) (with 0x01 (0xC1 ∷ 0x3F ∷ [])) (telling 2 1 checks) (sense3 0x08 0xA0 0) (withSlots (on writing) (slot 1)) (page (1 ∷ []))
+    -- The place in the text of the first segment that has one, and the number over all; a refused load tells neither.
+    ∷ after [] (with 0x35 threeTexts) (telling 2 3 checks) (sense3 0x08 0x80 0) (on (at 1)) (legend threeStored [])
+    ∷ after (cmd 0x73 ∷ []) (with 0x35 threeTexts) (telling 2 3 fine) noSense (withBlocked (on (at 1)) true) (legend threeStored [])
+    ∷ after [] (with 0x35 (threeTexts ++ (1 ∷ []))) (says (LoadCheck SegmentEnds) 0x0E false 0) (sense3 0x02 0x80 0) (on (at 1)) (page [])
     -- Underscore then character, blank then code, code then blank, two underscores.
     ∷ after (with 0x01 (0x6D ∷ 0x40 ∷ 0xC1 ∷ 0x6D ∷ []) ∷ []) (with 0x01 (0xC1 ∷ 0xC2 ∷ 0x40 ∷ 0x6D ∷ [])) fine noSense (on writing) (page (1 ∷ 2 ∷ 1 ∷ 0x2D ∷ []))
     -- Sense replies 24 bytes, then clears; the byte after them keeps its value.
@@ -309,5 +337,5 @@ abbrev spaceThenClear : World
 spaceThenClear = worldAfter (begun tens) (cmd 0x0B ∷ cmd 0x87 ∷ [])
 
 pub table : (map see (rows ++ ours) ≡ rows ++ ours) × (map counted lists ≡ lists) × (spaceThenClear .core .state .sheet ≡ waiting 1)
-unfolding rows ours lists ran flatten zipWith when firstOr every padded causeOf rowOf isAccepted checked isSound formLengths pitchesListed pitchesOk formOk unitsOf runsFrom runs unitsTotal linesWhere printable edges fcbCheck layoutCheck layoutOf channelAt startFcb formsOf formsInRange entered round upToFirst spaced skipped moved still toTop slotAt putSlot isLoaded serving unprintable standIn cellOf translated anyUnprintable lineCells mergeRules mergeCell collides mergeLine anyCollides lineAt putLine pageWritten noCauses lineCauses orUnmatched causeByte startTable startTables startSlots slotsInRange tableCheck pairsOf copiesOf sequenceCheck markIn numberCheck withSequence withReference startCopies copyCount copyNumber copyMark copiesInRange segmentOf badHead cut segments legendCheck storedLegends legendText storedSegments legendsOk noLegends covers shown copyFrom composed sizesOk linesNow started codes lookUp decode controlTraits traitsOf lineOk rangesOk dueOk writtenOk coreOk blankSheet noCells resetState resetStores reset fresh byte3 senseBytes refused done movedSheet moveOf doMove writtenSheet written writeCauses doWrite loadCheck atLine1 slotLoaded slotSelected loaded loadCauses doLoad completing doControl doCommand checkOf movement refusalOf copyAt doCompose emptied released doRelease perform effect step startRefusal startWorld noState noPrinter startOutcome worldAfter counts readOf deedOf finishesReset sinceNow note sinceOver sinceReset copiesOfPage given
+unfolding rows ours lists ran flatten zipWith when firstOr every padded causeOf rowOf isAccepted checked isSound formLengths pitchesListed pitchesOk formOk unitsOf runsFrom runs unitsTotal linesWhere printable edges fcbCheck layoutCheck layoutOf channelAt startFcb formsOf formsInRange entered round upToFirst spaced skipped moved still toTop slotAt putSlot isLoaded serving unprintable standIn cellOf translated unprintableAt lineCells mergeRules mergeCell collides mergeLine anyCollides lineAt putLine pageWritten noCauses textCauses lineCauses orUnmatched causeByte startTable startTables startSlots slotsInRange tableCheck pairsOf copiesOf sequenceCheck markIn numberCheck withSequence withReference startCopies copyCount copyNumber copyMark copiesInRange segmentOf badHead cut segments legendCheck storedLegends unprintableInTexts storedSegments legendsOk noLegends covers shown copyFrom composed sizesOk linesNow started codes lookUp decode controlTraits traitsOf lineOk rangesOk dueOk writtenOk coreOk blankSheet noCells resetState resetStores reset fresh byte3 senseBytes refused done movedSheet moveOf doMove writtenSheet written writeCauses doWrite loadCheck atLine1 slotLoaded slotSelected loaded loadCauses doLoad completing doControl doCommand checkOf movement refusalOf copyAt doCompose emptied released doRelease perform effect step startRefusal startWorld noState noPrinter startOutcome worldAfter counts readOf deedOf finishesReset sinceNow note sinceOver sinceReset copiesOfPage given
 table = (refl, refl, refl)

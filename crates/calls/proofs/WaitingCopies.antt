@@ -37,7 +37,7 @@ pub compose-gives : (w : World) (n : ℕ) (out : List ℕ) → isAccepted (refus
     → (let c = copyAt (w .core) n in
     step w (compose n out)
     ≡ record {
-      answer = record { refusal = Accepted; status = 0; ready = false; lines = 0; copy = c .number; mark = c .mark };
+      answer = record { refusal = Accepted; status = 0; ready = false; lines = 0; copy = c .number; mark = c .mark; first = 0; count = 0 };
       buffer = over (c .cells) out;
       world = w;
     })

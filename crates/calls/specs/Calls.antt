@@ -109,7 +109,7 @@ unfoldable pub doCompose : Core → ℕ → Effect
 doCompose k n =
     let c = copyAt k n in
     record {
-      answer = record { refusal = Accepted; status = 0; ready = false; lines = 0; copy = c .number; mark = c .mark };
+      answer = record { refusal = Accepted; status = 0; ready = false; lines = 0; copy = c .number; mark = c .mark; first = 0; count = 0 };
       core = k;
       sense = Keep;
       front = λ s. c .cells;

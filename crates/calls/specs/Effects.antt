@@ -20,9 +20,9 @@ use Rattle.form.specs.Form.{fcbCheck, formsOf}
 use Rattle.movement.specs.Movement.{moved, still, toTop}
 use Rattle.line.specs.declared.Slots.{Slots}
 use Rattle.line.specs.declared.Causes.{Causes}
-use Rattle.line.specs.Line.{putSlot, serving, translated, lineCells, lineAt, pageWritten, noCauses, lineCauses, orUnmatched, causeByte}
+use Rattle.line.specs.Line.{putSlot, serving, translated, unprintableAt, lineCells, lineAt, pageWritten, noCauses, textCauses, lineCauses, orUnmatched, causeByte}
 use Rattle.copies.specs.Copies.{tableCheck, sequenceCheck, numberCheck, withSequence, withReference}
-use Rattle.legends.specs.Legends.{legendCheck, storedLegends, legendText}
+use Rattle.legends.specs.Legends.{legendCheck, storedLegends, unprintableInTexts}
 use Rattle.calls.specs.declared.Sheet.{Sheet}
 use Rattle.calls.specs.declared.Load.{Load}
 use Rattle.calls.specs.declared.Load.the-variants.{Fcb, TranslateTable, CopyModification, OverlaySequence, CopyNumber}
@@ -51,7 +51,7 @@ refused k n x = record { answer = only x (rowOf n x .status); core = k; sense = 
 
 -- Numbers, Movement, Writing a line: an accepted command that sets the sense anew, by the core it leaves, its causes and its movement. Unit
 -- check, 02, is for a cause that Block has not hidden and for channel 9; unit exception, 01, for channel 12. Sense byte 0 has 08 for such
--- a cause, and 01 for channel 9.
+-- a cause, and 01 for channel 9. What is told of unprintable positions (T-01) is told whether Block hides the cause or not.
 unfoldable pub done : Core → Causes → Moved → Effect
 done k c m =
     let b1 = causeByte (k .state .blocked) c in
@@ -65,6 +65,8 @@ done k c m =
             lines = m .lines;
             copy = 0;
             mark = 0;
+            first = c .unprintables .first;
+            count = c .unprintables .count;
           };
       core = k;
       sense = Anew (sense3 (bit check 0x08 + bit (m .nine) 0x01) b1 0);
@@ -142,7 +144,9 @@ loaded k CopyNumber r = withState k (withCopies (k .state) (withReference (k .st
 unfoldable pub loadCauses : Core → Load → List ℕ → Causes
 loadCauses k Fcb r = noCauses
 loadCauses k TranslateTable r = noCauses
-loadCauses k CopyModification r = lineCauses (k .state .fixed .pitches) (k .state .slots) (k .stores .tables) false [] (legendText r)
+loadCauses k CopyModification r =
+    let s = k .state .slots in
+    textCauses s (unprintableInTexts (unprintableAt (k .state .fixed .pitches) (serving s (k .stores .tables))) r) false
 loadCauses k OverlaySequence r = noCauses
 loadCauses k CopyNumber r = noCauses
 

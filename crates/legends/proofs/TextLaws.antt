@@ -7,7 +7,6 @@ use native.Mathlib.Omega.{arith}
 use lib.ListN.{length, drop, take, length-append, length-take, length-drop}
 use lib.Dec.{lit<}
 use Rattle.seq.proofs.Laws.{all-append}
-use Rattle.numbers.specs.Sizes.{lineWidth}
 use Rattle.numbers.specs.declared.Checked.the-variants.{Sound}
 use Rattle.line.specs.Line.{unprintableAt}
 use Rattle.line.proofs.UnprintableLaws.{positions, unprintable-positions, unprintable-few}
@@ -20,17 +19,17 @@ module _ (ps t : List ℕ) where
   inText s = unprintableAt ps t (drop headSize s)
 
   -- a text goes no further than a line does
-  fit-positions : (s : List ℕ) → Fit s → positions lineWidth (inText s) ≡ true
+  fit-positions : (s : List ℕ) → Fit s → positions (inText s) ≡ true
   fit-positions s f =
-      unprintable-positions lineWidth ps t (drop headSize s)
+      unprintable-positions ps t (drop headSize s)
       (omega (arith, length-drop headSize s, f .exact, ends-in-line s (f .sound), byte-set s (f .sound) 4 (lit< tt)))
 
-  all-positions : {ss : List (List ℕ)} → Fits ss → positions lineWidth (flatten (map inText ss)) ≡ true
+  all-positions : {ss : List (List ℕ)} → Fits ss → positions (flatten (map inText ss)) ≡ true
   unfolding flatten
   all-positions end = refl
   all-positions (more {s} f fs) = all-append _ (inText s) _ (fit-positions s f) (all-positions fs)
 
-  pub texts-positions : (r : List ℕ) → legendCheck r ≡ Sound → positions lineWidth (unprintableInTexts (unprintableAt ps t) r) ≡ true
+  pub texts-positions : (r : List ℕ) → legendCheck r ≡ Sound → positions (unprintableInTexts (unprintableAt ps t) r) ≡ true
   unfolding unprintableInTexts
   texts-positions r e = all-positions (segments-fit r e)
 

@@ -1,18 +1,20 @@
--- What is told of unprintable positions: of one list of them after another, of none, and that first and count hang together.
-use Prim.Native.Nat.{ℕ, zero, suc, _+_, _≤_}
-use mathlib.Core.Path.{_≡_, refl, sym, ap, _∙_}
-use mathlib.Core.Bool.{Bool, true, false, cond, _&&_}
+-- What is told of unprintable positions: of one list of them after another; that first and number are both 0 or neither; and when it is a data check.
+use Prim.Native.Nat.{ℕ, suc, _+_, _/_, _≤_}
+use mathlib.Core.Path.{_≡_, refl, sym, _∙_}
+use mathlib.Core.Bool.{Bool, true, false, cond, not, _&&_}
 use mathlib.Core.List.{List, [], _∷_, _++_}
 use native.Mathlib.Nat.{zero-add}
 use native.Mathlib.Omega.{arith}
 use lib.ListN.{length, getD, length-append}
 use lib.Dec.{eqb, leb}
 use borrow.Author.Tests.{leb-true, ne-eqb}
-use Rattle.seq.specs.Words.{all, bit, placesFrom}
-use Rattle.seq.proofs.Laws.{and-left, and-right}
+use Rattle.seq.specs.Words.{all, bit}
+use Rattle.seq.proofs.Laws.{and-left, and-right, bit-most}
 use Rattle.seq.proofs.Places.{places-few, places-within}
+use Rattle.numbers.specs.Sizes.{lineWidth, legendSize}
 use Rattle.line.specs.declared.Unprintables.{Unprintables}
-use Rattle.line.specs.Line.{unprintable, unprintableAt, told}
+use Rattle.line.specs.declared.Causes.{Causes}
+use Rattle.line.specs.Line.{unprintable, unprintableAt, told, anyUnprintable, causeByte}
 
 -- one list after another: the first of all is the first one's, unless that has none
 pub told-append : (ns ms : List ℕ)
@@ -25,28 +27,39 @@ pub told-one : (t : Bool) (n : ℕ) → record { first = bit t n; count = bit t 
 told-one true n = refl
 told-one false n = refl
 
--- Positions of texts of at most m bytes, and what is told of such.
-abbrev pub positions : ℕ → List ℕ → Bool
-positions m ns = all (λ k. leb 1 k && leb k m) ns
+-- Positions that a line has; and what is told of such, where a record has no more of them than a load may have bytes.
+abbrev pub positions : List ℕ → Bool
+positions ns = all (λ k. leb 1 k && leb k lineWidth) ns
 
-pub record Tells (m : ℕ) (u : Unprintables) : Type 0 where
+pub record Tells (u : Unprintables) : Type 0 where
   pub both : eqb (u .first) 0 ≡ eqb (u .count) 0
-  pub first : u .first ≤ m
+  pub first : u .first ≤ lineWidth
+  pub count : u .count ≤ legendSize
 
-pub told-tells : (m : ℕ) (ns : List ℕ) → positions m ns ≡ true → Tells m (told ns)
-told-tells m [] e = record { both = refl; first = omega arith }
-told-tells m (n ∷ ns) e =
-    let here = and-left _ (positions m ns) e in
+pub told-tells : (ns : List ℕ) → positions ns ≡ true → length ns ≤ legendSize → Tells (told ns)
+told-tells [] e h = record { both = refl; first = omega arith; count = omega arith }
+told-tells (n ∷ ns) e h =
+    let here = and-left _ (positions ns) e in
     record {
-      both = ne-eqb n 0 (λ z. omega (arith, z, leb-true 1 n (and-left _ (leb n m) here))) ∙ sym (ne-eqb (suc (length ns)) 0 (λ z. omega (arith, z)));
-      first = leb-true n m (and-right (leb 1 n) _ here);
+      both = ne-eqb n 0 (λ z. omega (arith, z, leb-true 1 n (and-left _ (leb n lineWidth) here))) ∙ sym (ne-eqb (suc (length ns)) 0 (λ z. omega (arith, z)));
+      first = leb-true n lineWidth (and-right (leb 1 n) _ here);
+      count = h;
     }
 
 -- a record's are such, and no more than it has bytes
-pub unprintable-positions : (m : ℕ) (ps t r : List ℕ) → length r ≤ m → positions m (unprintableAt ps t r) ≡ true
+pub unprintable-positions : (ps t r : List ℕ) → length r ≤ lineWidth → positions (unprintableAt ps t r) ≡ true
 unfolding unprintableAt
-unprintable-positions m ps t r h = places-within (λ b. unprintable ps (getD t b 0)) m 1 r (omega arith) (omega (arith, h))
+unprintable-positions ps t r h = places-within (λ b. unprintable ps (getD t b 0)) lineWidth 1 r (omega arith) (omega (arith, h))
 
 pub unprintable-few : (ps t r : List ℕ) → length (unprintableAt ps t r) ≤ length r
 unfolding unprintableAt
 unprintable-few ps t r = places-few (λ b. unprintable ps (getD t b 0)) 1 r
+
+-- Sense byte 1 has 80 exactly where a position is told and Block does not hide it.
+pub check-80 : (blocked : Bool) (c : Causes) → causeByte blocked c / 0x80 ≡ bit (anyUnprintable c && not blocked) 1
+unfolding causeByte
+check-80 blocked c = go (anyUnprintable c && not blocked)
+  where
+    go : (t : Bool) → (bit t 0x80 + bit (c .unloaded) 0x20 + bit (c .unmatched) 0x10 + bit (c .collision && not blocked) 0x08) / 0x80 ≡ bit t 1
+    go true = omega (arith, bit-most (c .unloaded) 0x20, bit-most (c .unmatched) 0x10, bit-most (c .collision && not blocked) 0x08)
+    go false = omega (arith, bit-most (c .unloaded) 0x20, bit-most (c .unmatched) 0x10, bit-most (c .collision && not blocked) 0x08)

@@ -80,9 +80,9 @@ numberOf x = rowOf 0 x .number
 unfoldable pub isAccepted : Refusal → Bool
 isAccepted x = eqb (numberOf x) 0
 
--- An answer with no page ready, no lines moved, no copy: every refusal, and accepted calls that have none to tell.
+-- An answer with no page ready, no lines moved, no copy, nothing unprintable: every refusal, and accepted calls that have none to tell.
 abbrev pub only : Refusal → ℕ → Answer
-only x status = record { refusal = x; status = status; ready = false; lines = 0; copy = 0; mark = 0 }
+only x status = record { refusal = x; status = status; ready = false; lines = 0; copy = 0; mark = 0; first = 0; count = 0 }
 
 -- What a load's check finds, as an entry of an order.
 unfoldable pub checked : Checked → Option Refusal

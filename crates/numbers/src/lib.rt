@@ -64,6 +64,9 @@ pub struct Answer {
     pub lines: u8,
     pub copy: u16,
     pub mark: u8,
+    // Of a write or a legend load: the first unprintable position, from 1, or 0 for none; and how many there are.
+    pub first: u8,
+    pub count: u16,
 }
 
 // The table's last column: the sense is kept or set anew; or there is none, as a refused Start leaves no printer.
@@ -145,7 +148,7 @@ pub fn sense3(b0: u8, b1: u8, b2: u8) -> Sense
 }
 
 impl Answer {
-    // No page ready, no lines moved, no copy.
+    // No page ready, no lines moved, no copy, nothing unprintable.
     pub fn only(refusal: Refusal, status: u8) -> Answer
         ensures { λ r. ⌜ r ≡ only refusal status ⌝ }
     {
@@ -156,6 +159,8 @@ impl Answer {
             lines: 0,
             copy: 0,
             mark: 0,
+            first: 0,
+            count: 0,
         }
     }
 }

@@ -1,10 +1,10 @@
 -- The fields of a packed answer come back: none ever spills into another.
 use Prim.Native.Nat.{ℕ, _-_, _/_, _%_, _^_, _≤_, _<_}
 use mathlib.Core.Path.{_≡_}
-use mathlib.Core.Bool.{Bool, true, false}
 use native.Mathlib.Omega.{arith}
 use lib.Dec.{lit≤}
 use Rattle.seq.specs.Words.{bit}
+use Rattle.seq.proofs.Laws.{bit-most}
 use Rattle.numbers.specs.declared.Answer.{Answer}
 use Rattle.numbers.specs.declared.Refusal.{Refusal}
 use Rattle.numbers.specs.Numbers.{rowOf, numberOf, only}
@@ -28,11 +28,6 @@ pub record Unpacked (a : Answer) : Type 0 where
   pub lines : field (packed a) 24 8 ≡ a .lines
   pub copy : field (packed a) 32 9 ≡ a .copy
   pub above : packed a < 2 ^ 41
-
--- a flag's bit
-pub bit-most : (b : Bool) (n : ℕ) → bit b n ≤ n
-bit-most true n = omega arith
-bit-most false n = omega arith
 
 -- The number comes back of every answer, whatever its other fields are.
 pub number-back : (a : Answer) → field (packed a) 0 8 ≡ numberOf (a .refusal)

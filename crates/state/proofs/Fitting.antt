@@ -8,7 +8,7 @@ use lib.ListN.{length}
 use lib.Dec.{eqb, leb, ltb, lit≤}
 use borrow.Author.Tests.{ltb-true, ltb-false}
 use Rattle.seq.specs.Words.{any}
-use Rattle.seq.proofs.Laws.{or-left, or-right, cond-has, passed}
+use Rattle.seq.proofs.Laws.{or-left, or-right, bit-most, cond-has, passed}
 use Rattle.numbers.specs.declared.Checked.the-variants.{Sound}
 use Rattle.numbers.specs.declared.Refusal.the-variants.{Accepted}
 use Rattle.numbers.specs.Numbers.{rowOf, isAccepted}
@@ -35,7 +35,7 @@ use Rattle.calls.proofs.Good.{good, few-now}
 use Rattle.calls.proofs.Accepted.{allowed, composable}
 use Rattle.calls.proofs.Refused.{by-outcome}
 use Rattle.calls.proofs.Answers.{causesOf, Shape, sets, quiet, shape, acted, lines-of-no-move}
-use Rattle.state.proofs.Fields.{Fits, bit-most, only-fits}
+use Rattle.state.proofs.Fields.{Fits, only-fits}
 
 -- what an accepted command tells besides is its lines
 done-fits : (k : Core) (c : Causes) (m : Moved) → m .lines < 256 → Fits (done k c m .answer)
