@@ -150,6 +150,9 @@ command-tells k (Controls c) i a = told-tells [] refl (omega arith)
 command-tells k (Loads l) i a = load-tells k l (i .sent) (ltb-false legendSize (length (i .sent)) (a .sized)) (a .sound)
 command-tells k Unlisted i a = told-tells [] refl (omega arith)
 
+pub causes-tell : (k : Core) (c : Command) (i : Issued) → Allowed k c i → Tells (causesOf k c i .unprintables)
+causes-tell k c i a = rw (causes-told k c i) (command-tells k c i a)
+
 perform-tells : (k : Core) (c : Call) → isAccepted (refusalOf k c) ≡ true → Tells (toldIn (perform k c .answer))
 unfolding perform doCompose doRelease
 perform-tells k (command i) e = rw (told-shape (performed k i e)) (command-tells k (decode (i .byte)) i (allowed k i e))

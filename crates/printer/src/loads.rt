@@ -78,7 +78,7 @@ impl Printer {
         let table = line::tables::serving(slots, tables);
         let found = legends::store_legends(legends, sent, pitches, table);
         let causes = Causes {
-            unprintable: found,
+            unprintables: found,
             unloaded: !loaded,
             unmatched: false,
             collision: false,

@@ -94,6 +94,8 @@ impl Printer {
                 lines: moved.lines,
                 copy: 0,
                 mark: 0,
+                first: causes.unprintables.first,
+                count: causes.unprintables.count,
             },
         }
     }

@@ -48,6 +48,8 @@ impl Printer {
                 lines: 0,
                 copy: number,
                 mark: mark,
+                first: 0,
+                count: 0,
             },
         }
     }

@@ -1,6 +1,6 @@
 -- What a public call's contract comes to: bytes and stores that a printer can have get its step, any others get 9 and are left; an accepted call has done
 -- what `perform` says, a refused one what its row says.
-use Prim.Native.Nat.{ℕ, _+_, _<_}
+use Prim.Native.Nat.{ℕ, _+_, _^_, _≤_, _<_}
 use mathlib.Core.Path.{_≡_, refl, sym, ap, _∙_}
 use mathlib.Core.Bool.{Bool, true, false, cond, _&&_}
 use mathlib.Core.List.{List, []}
@@ -17,11 +17,13 @@ use Rattle.calls.specs.Effects.{Effect, refused}
 use Rattle.calls.specs.Calls.{Call, refusalOf, perform, sizeOf, lent, Outcome, outcomeOf, step}
 use Rattle.calls.specs.Start.{Asked, startOutcome}
 use Rattle.calls.proofs.Refused.{refused-effect, accepted-effect, nine}
-use Rattle.printer.specs.Layout.{lengthAt, stateSize}
+use Rattle.printer.specs.Layout.{lengthAt, referenceAt, stateSize}
 use Rattle.state.specs.State.{byteAt, stateAt, coreAt, worldAt, readable}
 use Rattle.state.specs.Contents.{soundBytes}
 use Rattle.state.specs.Packed.{packed}
 use Rattle.state.specs.Host.{Called, called, left, shown, unread, callBytes, startBytes}
+use Rattle.state.proofs.Fields.{fields}
+use Rattle.state.proofs.Fitting.{step-fits, start-fits}
 use Rattle.state.proofs.Round.{back}
 use Rattle.state.proofs.Sound.{sound-read, sound-size}
 use Rattle.serve.specs.Served.{Judged}
@@ -53,11 +55,20 @@ module _ (s : List ℕ) (m : Stores) (c : Call) where
   unfolding callBytes
   call-sound a e h p = rw (p, sound-read s m e) h
 
+  -- and 64 bits hold its answer
+  pub call-room : (a : Answer) {buffer bytes : List ℕ} {m′ : Stores} → byteAt s referenceAt ≤ 255
+      → left a buffer bytes m′ ≡ shown (step (worldAt s m) c) → packed a < 2 ^ 64
+  unfolding stateAt
+  call-room a low h = rw (ap (λ (k : Called). k .answer) h) (fields _ (step-fits (worldAt s m) c low) .above)
+
 -- what judging found good stands for a printer, and is as long as a state
 pub judged : {s : List ℕ} {m : Stores} {w : Layout} → soundBytes s m ≡ true → w ≡ laidOut (stateAt s) → Judged s m w
 judged {s} {m} e l = record { bytes = record { size = sound-size s m e; read = sound-read s m e }; sound = e; layout = l }
 
--- Start's.
+-- Start's: 64 bits hold its answer.
+pub start-room : (a : Asked) (m : Stores) (x : Answer) {bytes : List ℕ} {m′ : Stores} → left x [] bytes m′ ≡ shown (startOutcome a m) → packed x < 2 ^ 64
+start-room a m x h = rw (ap (λ (k : Called). k .answer) h) (fields _ (start-fits a m) .above)
+
 module _ (a : Asked) (s : List ℕ) (m : Stores) where
   pub start-with-room : {answer : ℕ} (x : Answer) {bytes : List ℕ} {m′ : Stores} → length s ≡ stateSize → left x [] bytes m′ ≡ shown (startOutcome a m)
       → answer ≡ packed x → called answer [] bytes m′ ≡ startBytes a s m

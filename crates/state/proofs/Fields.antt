@@ -17,8 +17,10 @@ pub record Fits (a : Answer) : Type 0 where
   pub mark : a .mark ≤ 1
   pub lines : a .lines < 256
   pub copy : a .copy < 512
+  pub first : a .first < 256
+  pub count : a .count < 32768
 
--- the seven, each where the C header says, and no bit above them
+-- the nine, each where the C header says, and no bit above them
 pub record Unpacked (a : Answer) : Type 0 where
   pub number : field (packed a) 0 8 ≡ numberOf (a .refusal)
   pub status : field (packed a) 8 8 ≡ a .status
@@ -27,7 +29,9 @@ pub record Unpacked (a : Answer) : Type 0 where
   pub cause : field (packed a) 18 6 ≡ rowOf 0 (a .refusal) .cause
   pub lines : field (packed a) 24 8 ≡ a .lines
   pub copy : field (packed a) 32 9 ≡ a .copy
-  pub above : packed a < 2 ^ 41
+  pub first : field (packed a) 41 8 ≡ a .first
+  pub count : field (packed a) 49 15 ≡ a .count
+  pub above : packed a < 2 ^ 64
 
 -- The number comes back of every answer, whatever its other fields are.
 pub number-back : (a : Answer) → field (packed a) 0 8 ≡ numberOf (a .refusal)
@@ -48,9 +52,11 @@ fields a h =
       cause = omega arith;
       lines = omega arith;
       copy = omega arith;
+      first = omega arith;
+      count = omega arith;
       above = omega arith;
     }
 
 -- An answer that tells nothing but number and status, as every refusal does.
 pub only-fits : (x : Refusal) (n : ℕ) → n < 256 → Fits (only x n)
-only-fits x n h = record { status = h; mark = lit≤ tt; lines = lit≤ tt; copy = lit≤ tt }
+only-fits x n h = record { status = h; mark = lit≤ tt; lines = lit≤ tt; copy = lit≤ tt; first = lit≤ tt; count = lit≤ tt }

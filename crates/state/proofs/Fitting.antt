@@ -20,29 +20,39 @@ use Rattle.movement.specs.Movement.{Spot, entered, spaced, moved}
 use Rattle.movement.proofs.MovementLaws.{skipped-most}
 use Rattle.line.specs.declared.Causes.{Causes}
 use Rattle.line.specs.Line.{causeByte}
+use Rattle.line.proofs.UnprintableLaws.{Tells}
 use Rattle.copies.specs.declared.Copies.{Copies}
 use Rattle.copies.specs.Copies.{badPair, sequenceCheck, markIn, sequenceNow, copyCount, copyMark}
 use Rattle.copies.proofs.CopiesLaws.{few-copies, number-most}
 use Rattle.calls.specs.declared.Command.{Command}
 use Rattle.calls.specs.declared.Command.the-variants.{Write, Move, Controls, Loads, Unlisted}
 use Rattle.calls.specs.Core.{Stores, Core, World, linesNow}
-use Rattle.calls.specs.Commands.{Issued, decode}
+use Rattle.calls.specs.Commands.{Issued}
 use Rattle.calls.specs.Contents.{coreOk}
 use Rattle.calls.specs.Effects.{Effect, refused, done, moveOf}
 use Rattle.calls.specs.Calls.{Call, command, compose, release, movement, refusalOf, copyAt, doCompose, doRelease, perform, sizeOf, effect, Outcome, step}
 use Rattle.calls.specs.Start.{Asked, startRefusal, startOutcome}
+use Rattle.calls.specs.Premises.{Allowed}
 use Rattle.calls.proofs.Good.{good, few-now}
 use Rattle.calls.proofs.Accepted.{allowed, composable}
 use Rattle.calls.proofs.Refused.{by-outcome}
-use Rattle.calls.proofs.Answers.{causesOf, Shape, sets, quiet, shape, acted, lines-of-no-move}
+use Rattle.calls.proofs.Answers.{causesOf, Shape, sets, quiet, performed, acted, lines-of-no-move}
+use Rattle.calls.proofs.Unprintable.{causes-tell}
 use Rattle.state.proofs.Fields.{Fits, only-fits}
 
--- what an accepted command tells besides is its lines
-done-fits : (k : Core) (c : Causes) (m : Moved) → m .lines < 256 → Fits (done k c m .answer)
+-- what an accepted command tells besides is its lines and its unprintable positions
+done-fits : (k : Core) (c : Causes) (m : Moved) → m .lines < 256 → Tells (c .unprintables) → Fits (done k c m .answer)
 unfolding done rowOf
-done-fits k c m h =
+done-fits k c m h u =
     let check = not (eqb (causeByte (k .state .blocked) c) 0) in
-    record { status = omega (arith, bit-most (check || m .nine) 0x02, bit-most (m .twelve) 0x01); mark = lit≤ tt; lines = h; copy = lit≤ tt }
+    record {
+      status = omega (arith, bit-most (check || m .nine) 0x02, bit-most (m .twelve) 0x01);
+      mark = lit≤ tt;
+      lines = h;
+      copy = lit≤ tt;
+      first = omega (arith, u .first);
+      count = omega (arith, u .count);
+    }
 
 -- The lines that a movement has: a space from line c of p enters those after c, and line 1 of the next form; a skip goes round the p.
 entered-few : (p c n : ℕ) → length (entered p c n) ≤ suc (p - c)
@@ -57,7 +67,7 @@ unfolding moved spaced
 moved-few ls c (Space n) a b = omega (arith, entered-few (length ls) c n)
 moved-few ls c (Skip channel) a b = skipped-most ls c b (omega arith) channel
 
--- a command's movement, on contents that a printer can have, and what any listed command tells
+-- a command's movement, on contents that a printer can have
 module _ (k : Core) (ok : coreOk k ≡ true) where
   move-few : (m : Motion) → moveOf (k .state) m .lines < 256
   unfolding moveOf
@@ -73,13 +83,14 @@ module _ (k : Core) (ok : coreOk k ≡ true) where
   movement-few (Loads l) = rw (lines-of-no-move k (Loads l) refl) (lit≤ tt)
   movement-few Unlisted = rw (lines-of-no-move k Unlisted refl) (lit≤ tt)
 
-  command-fits : {c : Command} {i : Issued} {e : Effect} → Shape k c i e → Fits (e .answer)
-  unfolding rowOf
-  command-fits {c} {i} (sets k′ q w e) = rw e (done-fits k′ (causesOf k c i) (movement k c) (movement-few c))
-  command-fits (quiet s f q m e) = rw e (only-fits Accepted _ (lit≤ tt))
+command-fits : {k : Core} {c : Command} {i : Issued} {e : Effect} → Allowed k c i → Shape k c i e → Fits (e .answer)
+unfolding rowOf
+command-fits {k} {c} {i} a (sets k′ q w e) =
+    rw e (done-fits k′ (causesOf k c i) (movement k c) (movement-few k (a .ok) c) (causes-tell k c i a))
+command-fits a (quiet s f q m e) = rw e (only-fits Accepted _ (lit≤ tt))
 
 pub accepted-fits : (k : Core) (i : Issued) → isAccepted (refusalOf k (command i)) ≡ true → Fits (effect k (command i) .answer)
-accepted-fits k i e = command-fits k (allowed k i e .ok) (acted k i e)
+accepted-fits k i e = command-fits (allowed k i e) (acted k i e)
 
 -- The mark that Compose tells is one of the sequence's, so 0 or 1.
 mark-in : (k : ℕ) (ps : List (ℕ × ℕ)) → any badPair ps ≡ false → markIn k ps ≤ 1
@@ -105,12 +116,14 @@ copy-fits k n out h e =
       mark = mark-most (k .state .copies) n (g .sound);
       lines = lit≤ tt;
       copy = omega (arith, number-most (k .state .copies) n h (omega (arith, c .high, few-copies _ (g .sound))));
+      first = lit≤ tt;
+      count = lit≤ tt;
     }
 
 -- every accepted call
 perform-fits : (k : Core) (c : Call) → k .state .copies .reference ≤ 255 → isAccepted (refusalOf k c) ≡ true → Fits (perform k c .answer)
 unfolding perform doRelease
-perform-fits k (command i) h e = let a = allowed k i e in command-fits k (a .ok) (shape k (decode (i .byte)) i (a .known))
+perform-fits k (command i) h e = command-fits (allowed k i e) (performed k i e)
 perform-fits k (compose n out) h e = copy-fits k n out h e
 perform-fits k release h e = only-fits Accepted 0 (lit≤ tt)
 

@@ -2,13 +2,24 @@
 use numbers::Answer;
 use numbers::Refusal;
 ghost use mathlib.Core.Path.{_≡_};
-ghost use Prim.Native.Nat.{_+_, _*_};
+ghost use Prim.Native.Nat.{_^_, _<_};
 ghost use Rattle.numbers.specs.declared.Refusal.the-variants.{BadStore};
 ghost use Rattle.numbers.specs.Numbers.{only};
-ghost use Rattle.state.specs.Packed.{packed};
+ghost use Rattle.state.specs.Packed.{joined, packed};
 
-fn join(number: u8, status: u8, ready: u8, mark: u8, cause: u8, lines: u8, copy: u16) -> u64
-    ensures { λ r. ⌜ r ≡ number + status * 0x100 + ready * 0x10000 + mark * 0x20000 + cause * 0x40000 + lines * 0x1000000 + copy * 0x100000000 ⌝ }
+fn join(
+    number: u8,
+    status: u8,
+    ready: u8,
+    mark: u8,
+    cause: u8,
+    lines: u8,
+    copy: u16,
+    first: u8,
+    count: u16,
+) -> u64
+    requires { ⌜ joined number status ready mark cause lines copy first count < 2 ^ 64 ⌝ }
+    ensures { λ r. ⌜ r ≡ joined number status ready mark cause lines copy first count ⌝ }
 {
     (number as u64)
         + (status as u64) * 0x100
@@ -17,9 +28,12 @@ fn join(number: u8, status: u8, ready: u8, mark: u8, cause: u8, lines: u8, copy:
         + (cause as u64) * 0x4_0000
         + (lines as u64) * 0x100_0000
         + (copy as u64) * 0x1_0000_0000
+        + (first as u64) * 0x200_0000_0000
+        + (count as u64) * 0x2_0000_0000_0000
 }
 
 pub fn pack(a: Answer) -> u64
+    requires { ⌜ packed a < 2 ^ 64 ⌝ }
     ensures { λ r. ⌜ r ≡ packed a ⌝ }
 {
     let refusal = a.refusal;
@@ -32,6 +46,8 @@ pub fn pack(a: Answer) -> u64
         row.cause,
         a.lines,
         a.copy,
+        a.first,
+        a.count,
     )
 }
 
