@@ -1,5 +1,6 @@
 pub mod Tight
 pub mod Unpacks
+pub mod Unprintable
 pub mod Steps
 pub mod Refused
 pub mod Starts

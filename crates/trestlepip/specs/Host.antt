@@ -4,6 +4,7 @@ use mathlib.Core.Bool.{Bool}
 use mathlib.Core.List.{List, _++_}
 use lib.Dec.{eqb}
 use lib.ListN.{take, drop}
+use Rattle.line.specs.declared.Unprintables.{Unprintables}
 use Rattle.printer.specs.Layout.{sense0At, pairsAt}
 use Rattle.state.specs.Host.{Held}
 use Rattle.state.specs.Packed.{field}
@@ -14,6 +15,10 @@ numberIn answer = field answer 0 8
 
 abbrev pub readyIn : ℕ → Bool
 readyIn answer = eqb (field answer 16 1) 1
+
+-- T-01: what it tells of unprintable positions: the first, and how many.
+abbrev pub toldBy : ℕ → Unprintables
+toldBy answer = record { first = field answer 41 8; count = field answer 49 15 }
 
 -- The state's bytes except those of the sense.
 abbrev pub butSense : Held → List ℕ
