@@ -1,4 +1,4 @@
-/* Copies and legends. */
+/* Copies and legends; T-01. */
 #include "parts.h"
 
 #include <string.h>
@@ -110,17 +110,27 @@ bool legends_as_stored(const uint8_t *legends)
     return all_zero(legends + at, LEGEND_BYTES - at);
 }
 
-/* Copies and legends: the record is stored as it is, with its text translated; gives the causes 80 and 20. */
-unsigned load_legends(const struct printer *p, const uint8_t *tables, const uint8_t *record, size_t count, uint8_t *legends)
+/* T-01: the place is that in the first text which has one, and the number is over all text. */
+static struct findings joined(struct findings before, struct findings next)
 {
-    unsigned causes = 0;
+    return (struct findings){
+        .first_unprintable = before.first_unprintable != 0 ? before.first_unprintable : next.first_unprintable,
+        .unprintables = before.unprintables + next.unprintables,
+        .no_table = before.no_table || next.no_table,
+    };
+}
+
+/* Copies and legends: the record is stored as it is, with its text translated. */
+struct findings load_legends(const struct printer *p, const uint8_t *tables, const uint8_t *record, size_t count, uint8_t *legends)
+{
+    struct findings found = { 0 };
     memset(legends, 0, LEGEND_BYTES);
     memcpy(legends, record, count);
     for (size_t at = 0; at < count; at += segment_size(record + at)) {
         size_t text = at + SEGMENT_HEAD;
-        causes |= translate(p, tables, record + text, record[at + POSITIONS], legends + text);
+        found = joined(found, translate(p, tables, record + text, record[at + POSITIONS], legends + text));
     }
-    return causes;
+    return found;
 }
 
 /* Copies and legends: the segment after this one, the first for a null pointer, and null after the last. */

@@ -1,4 +1,4 @@
-/* Writing a line. */
+/* Writing a line; T-01. */
 #include "parts.h"
 
 #include <string.h>
@@ -35,18 +35,27 @@ static const uint8_t *serving_table(const struct printer *p, const uint8_t *tabl
     return p->loaded[p->selected] ? tables + p->selected * SLOT_BYTES : tables;
 }
 
-/* Writing a line: bytes to codes; gives the causes 80 and 20. */
-unsigned translate(const struct printer *p, const uint8_t *tables, const uint8_t *bytes, size_t count, uint8_t *cells)
+/* T-01: the first unprintable position of a text, and how many there are. */
+static void add_unprintable(struct findings *found, size_t position)
+{
+    if (found->unprintables == 0)
+        found->first_unprintable = (unsigned)position;
+    found->unprintables++;
+}
+
+/* Writing a line: bytes to codes; finds which are unprintable, and whether the selected table isn't loaded. */
+struct findings translate(const struct printer *p, const uint8_t *tables, const uint8_t *bytes, size_t count, uint8_t *cells)
 {
     const uint8_t *table = serving_table(p, tables);
-    unsigned causes = p->loaded[p->selected] ? 0 : NO_TABLE;
+    struct findings found = { .no_table = !p->loaded[p->selected] };
     for (size_t i = 0; i < count; i++) {
         uint8_t code = table[bytes[i]];
         bool replaced = unprintable(p, code);
         cells[i] = replaced ? stand_in(p, table) : code;
-        causes |= replaced ? UNPRINTABLE : 0u;
+        if (replaced)
+            add_unprintable(&found, i + 1);
     }
-    return causes;
+    return found;
 }
 
 /* Writing a line: location 00 of any module. */
@@ -78,24 +87,25 @@ static uint8_t merge(uint8_t old, uint8_t new, bool *collide)
     return old;
 }
 
-/* Writing a line: a later write merges by position; gives the cause 08. */
-static unsigned merge_line(uint8_t *line, const uint8_t *cells)
+/* Writing a line: a later write merges by position; gives whether two characters collide. */
+static bool merge_line(uint8_t *line, const uint8_t *cells)
 {
     bool collide = false;
     for (unsigned i = 0; i < LINE_CELLS; i++)
         line[i] = merge(line[i], cells[i], &collide);
-    return collide ? MULTIPLE : 0;
+    return collide;
 }
 
-/* Writing a line: the whole of a write, without its movement; gives all its causes. */
-unsigned write_line(const struct printer *p, const uint8_t *tables, const uint8_t *record, size_t count, uint8_t *page)
+/* Writing a line: the whole of a write, without its movement; the fill after the record is not translated, so it is never found. */
+struct findings write_line(const struct printer *p, const uint8_t *tables, const uint8_t *record, size_t count, uint8_t *page)
 {
     uint8_t cells[LINE_CELLS];
     uint8_t *line = page + (p->line - 1) * LINE_CELLS;
     memset(cells, stand_in(p, serving_table(p, tables)), LINE_CELLS);
-    unsigned causes = translate(p, tables, record, count, cells);
+    struct findings found = translate(p, tables, record, count, cells);
     if (p->written)
-        return causes | merge_line(line, cells);
-    memcpy(line, cells, LINE_CELLS);
-    return causes;
+        found.multiple = merge_line(line, cells);
+    else
+        memcpy(line, cells, LINE_CELLS);
+    return found;
 }

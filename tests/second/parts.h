@@ -43,6 +43,14 @@ struct printer {
     uint8_t fcb[TRESTLEPIP_FCB_MOST];
 };
 
+/* What a write or a legend load finds on its way; positions count from 1, and the first is 0 if there is none. */
+struct findings {
+    unsigned first_unprintable;
+    unsigned unprintables;
+    bool no_table;
+    bool multiple;
+};
+
 /* What a space or a skip does to the form. */
 struct movement {
     unsigned line;
@@ -71,8 +79,8 @@ bool page_started(const struct printer *p);
 
 /* line.c */
 void starting_tables(uint8_t *tables);
-unsigned translate(const struct printer *p, const uint8_t *tables, const uint8_t *bytes, size_t count, uint8_t *cells);
-unsigned write_line(const struct printer *p, const uint8_t *tables, const uint8_t *record, size_t count, uint8_t *page);
+struct findings translate(const struct printer *p, const uint8_t *tables, const uint8_t *bytes, size_t count, uint8_t *cells);
+struct findings write_line(const struct printer *p, const uint8_t *tables, const uint8_t *record, size_t count, uint8_t *page);
 
 /* copies.c */
 unsigned sequence_cause(const uint8_t *pairs, size_t count);
@@ -80,7 +88,7 @@ unsigned copies_in_all(const struct printer *p);
 unsigned mark_of_copy(const struct printer *p, unsigned copy);
 unsigned legends_cause(const uint8_t *record, size_t count);
 bool legends_as_stored(const uint8_t *legends);
-unsigned load_legends(const struct printer *p, const uint8_t *tables, const uint8_t *record, size_t count, uint8_t *legends);
+struct findings load_legends(const struct printer *p, const uint8_t *tables, const uint8_t *record, size_t count, uint8_t *legends);
 const uint8_t *next_segment(const uint8_t *legends, const uint8_t *segment);
 bool segment_covers_copy(const uint8_t *segment, unsigned number);
 void compose_copy(const struct printer *p, unsigned number, const uint8_t *page, const uint8_t *legends, uint8_t *out);

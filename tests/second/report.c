@@ -36,12 +36,12 @@ void print_call(const struct call *c, const uint8_t *state)
 
 static void print_field(const char *name, unsigned in_a, unsigned in_b)
 {
-    printf("    %-12s %10X %10X%s\n", name, in_a, in_b, in_a == in_b ? "" : "  differ");
+    printf("    %-17s %10X %10X%s\n", name, in_a, in_b, in_a == in_b ? "" : "  differ");
 }
 
 void print_answers(const char *a_name, uint64_t a, const char *b_name, uint64_t b)
 {
-    printf("answers (hex)    %10s %10s\n", a_name, b_name);
+    printf("answers (hex)         %10s %10s\n", a_name, b_name);
     print_field("number", trestlepip_number(a), trestlepip_number(b));
     print_field("status", trestlepip_status(a), trestlepip_status(b));
     print_field("page ready", trestlepip_ready(a), trestlepip_ready(b));
@@ -49,7 +49,8 @@ void print_answers(const char *a_name, uint64_t a, const char *b_name, uint64_t 
     print_field("cause", trestlepip_cause(a), trestlepip_cause(b));
     print_field("lines moved", trestlepip_lines(a), trestlepip_lines(b));
     print_field("copy number", trestlepip_copy_number(a), trestlepip_copy_number(b));
-    print_field("other bits", (unsigned)(a >> 41), (unsigned)(b >> 41));
+    print_field("first unprintable", trestlepip_first_unprintable(a), trestlepip_first_unprintable(b));
+    print_field("unprintables", trestlepip_unprintables(a), trestlepip_unprintables(b));
 }
 
 void print_place(const struct run *r)

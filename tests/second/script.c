@@ -162,6 +162,8 @@ static void tell_answer(FILE *to, uint64_t answer)
     tell_count(to, "lines", trestlepip_lines(answer));
     tell_count(to, "copy", trestlepip_copy_number(answer));
     tell_count(to, "mark", trestlepip_mark(answer));
+    tell_count(to, "first", trestlepip_first_unprintable(answer));
+    tell_count(to, "count", trestlepip_unprintables(answer));
 }
 
 /* The sense, the current line, and that line's first cell if the page has it. */

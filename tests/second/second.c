@@ -1,11 +1,11 @@
-/* Calls; Numbers; Commands; Reset and sense. */
+/* Calls; Numbers; Commands; Reset and sense; T-01. */
 #include "second.h"
 
 #include "parts.h"
 
 #include <string.h>
 
-/* Calls: what an answer holds. */
+/* Calls, T-01: what an answer holds. */
 struct answer {
     unsigned number;
     unsigned status;
@@ -14,6 +14,8 @@ struct answer {
     unsigned cause;
     unsigned lines_moved;
     unsigned copy_number;
+    unsigned first_unprintable;
+    unsigned unprintables;
 };
 
 /* The buffers of one command. */
@@ -43,7 +45,8 @@ struct command {
 static uint64_t pack(struct answer a)
 {
     return (uint64_t)a.number | (uint64_t)a.status << 8 | (uint64_t)a.ready << 16 | (uint64_t)a.mark << 17
-        | (uint64_t)a.cause << 18 | (uint64_t)a.lines_moved << 24 | (uint64_t)a.copy_number << 32;
+        | (uint64_t)a.cause << 18 | (uint64_t)a.lines_moved << 24 | (uint64_t)a.copy_number << 32
+        | (uint64_t)a.first_unprintable << 41 | (uint64_t)a.unprintables << 49;
 }
 
 /* Numbers: a refusal that shows its number and status alone. */
@@ -139,15 +142,27 @@ static void reset(struct printer *p, uint8_t *legends, uint8_t *tables)
     p->reset_due = 0;
 }
 
-/* Writing a line: Block hides 80 and 08 alone; what is left is a data check. Channel 9 and 12 join. */
-static struct answer accepted(struct printer *p, unsigned causes, const struct movement *m)
+/* Writing a line, Movement: the causes of a data check; 80 is that there is an unprintable position. */
+static unsigned causes_of(const struct findings *found, const struct movement *m)
 {
+    return (found->unprintables != 0 ? UNPRINTABLE : 0u) | (found->no_table ? NO_TABLE : 0u) | (m->no_match ? NO_MATCH : 0u)
+        | (found->multiple ? MULTIPLE : 0u);
+}
+
+/* Writing a line: Block hides 80 and 08 alone; what is left is a data check. Channel 9 and 12 join. T-01: Block doesn't hide the positions. */
+static struct answer accepted(struct printer *p, const struct findings *found, const struct movement *m)
+{
+    unsigned causes = causes_of(found, m);
     unsigned shown = p->block ? causes & ~(unsigned)(UNPRINTABLE | MULTIPLE) : causes;
     unsigned byte_0 = (shown ? 0x08u : 0u) | (m->channel_9 ? 0x01u : 0u);
     set_sense(p, byte_0, shown, 0);
     unsigned status = 0x0Cu | (byte_0 ? 0x02u : 0u) | (m->channel_12 ? 0x01u : 0u);
-    return (struct answer){ .status = status, .ready = m->completes, .lines_moved = m->lines_moved };
+    return (struct answer){ .status = status, .ready = m->completes, .lines_moved = m->lines_moved,
+            .first_unprintable = found->first_unprintable, .unprintables = found->unprintables };
 }
+
+/* Writing a line: what a command finds that translates nothing. */
+static const struct findings nothing = { 0 };
 
 /* Movement: where nothing moves and no page is completed. */
 static struct movement at_rest(const struct printer *p)
@@ -168,15 +183,15 @@ static void move(struct printer *p, const struct movement *m)
 /* Writing a line, Movement: writing comes before movement; causes of both are joined. */
 static struct answer write_or_move(struct printer *p, struct command c, const struct lent *l)
 {
-    unsigned causes = 0;
+    struct findings found = nothing;
     if (is_write(c.kind)) {
-        causes = write_line(p, l->tables, l->record, l->record_len, l->page);
+        found = write_line(p, l->tables, l->record, l->record_len, l->page);
         p->written = 1;
     }
     bool skips = c.kind == WRITE_SKIP || c.kind == SKIP_NOW;
     struct movement m = skips ? skip(p, c.n) : space(p, c.n);
     move(p, &m);
-    return accepted(p, causes | (m.no_match ? NO_MATCH : 0u), &m);
+    return accepted(p, &found, &m);
 }
 
 /* Movement: Clear completes a started page and puts the form at line 1; else it does nothing. */
@@ -184,7 +199,7 @@ static struct answer clear(struct printer *p)
 {
     struct movement m = { .line = 1, .completes = page_started(p) };
     move(p, &m);
-    return accepted(p, 0, &m);
+    return accepted(p, &nothing, &m);
 }
 
 /* Reset and sense: at once on a page not started, else with the page's Release. */
@@ -239,10 +254,10 @@ static void load_sequence(struct printer *p, const struct lent *l)
     p->sequence_count = (unsigned)l->record_len;
 }
 
-/* Commands: a load whose record has been judged; legends alone can show a data check. */
+/* Commands: a load whose record has been judged; legends alone have text in which something is found. */
 static struct answer load(struct printer *p, enum kind kind, const struct lent *l)
 {
-    unsigned causes = 0;
+    struct findings found = nothing;
     if (kind == LOAD_FCB)
         load_fcb(p, l);
     else if (kind == LOAD_TABLE)
@@ -252,9 +267,9 @@ static struct answer load(struct printer *p, enum kind kind, const struct lent *
     else if (kind == LOAD_NUMBER)
         p->copy_number = l->record[0];
     else
-        causes = load_legends(p, l->tables, l->record, l->record_len, l->legends);
+        found = load_legends(p, l->tables, l->record, l->record_len, l->legends);
     struct movement m = at_rest(p);
-    return accepted(p, causes, &m);
+    return accepted(p, &found, &m);
 }
 
 /* Commands: Block, Allow and Select. */
@@ -265,7 +280,7 @@ static struct answer set_switch(struct printer *p, struct command c)
     else
         p->block = c.kind == BLOCK;
     struct movement m = at_rest(p);
-    return accepted(p, 0, &m);
+    return accepted(p, &nothing, &m);
 }
 
 /* Commands: a command that nothing refuses. */
