@@ -10,6 +10,11 @@ const unsigned forms[FORMS] = { 72, 84, 96, 132, 144, 168, 192, 204, 240, 264, 2
 /* At 12 lines per inch this form has 132 printable lines, and no other has so many. */
 enum { FORM_LONGEST = 288 };
 
+bool translates(const struct call *c)
+{
+    return c->kind == CALL_COMMAND && (c->command == 0x35 || c->command % 8 == 1);
+}
+
 /* ---- commands ---- */
 
 /* A write: no space for overprints, spaces, or a skip. */

@@ -10,6 +10,9 @@
 
 enum { STORES = 4, FORMS = 11, RECORD_ROOM = 10240, REPLY_ROOM = 64, OUT_ROOM = TRESTLEPIP_PAGE_BYTES + 64, CHANGES_MOST = 3, CHANGE_MOST = 256 };
 
+/* The most text that a legend load takes: 39 segments of a whole line each. */
+enum { TEXT_MOST = 39 * TRESTLEPIP_LINE_CELLS };
+
 /* The lent stores, in the order of the interface. */
 enum store { STATE, PAGE, LEGENDS, TABLES };
 
@@ -47,6 +50,9 @@ struct call {
     size_t change_count;
     bool damaged[STORES];
 };
+
+/* Whether the call is a write or a legend load, if its byte is listed: only these translate. */
+bool translates(const struct call *c);
 
 /* What the generator keeps from call to call. A calm one makes no Start except the first, and damages nothing. */
 struct generator {

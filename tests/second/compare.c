@@ -1,4 +1,4 @@
-/* Comparing: every byte that a call was lent, and what a refused call must leave. */
+/* Comparing: every byte that a call was lent, what a refused call must leave, and what an answer may tell. */
 #include "compare.h"
 
 #include "../../include/trestlepip.h"
@@ -100,4 +100,32 @@ bool refusal_changes(const struct run *r, struct difference *d)
         if (differs("refused, but changed:", i, store(r->library, i), r->before[i], store_size[i], d))
             return true;
     return r->call.kind == CALL_START ? refused_start_state(r, d) : refusal_changes_state(r, number, d);
+}
+
+/* T-01: whether a record has room for so many positions, from the first of them on; the fill after a write's record is no room. */
+static bool is_in_record(const struct call *c, unsigned first, unsigned count)
+{
+    if (c->command == TRESTLEPIP_LOAD_COPY_MODIFICATION)
+        return first <= TRESTLEPIP_LINE_CELLS && count <= TEXT_MOST;
+    return first + count <= c->record_len + 1;
+}
+
+/* T-01: what is told is also a data check, unless Block is on; nothing else gives an accepted write or legend load that bit. */
+static bool is_in_sense(const uint8_t *state, unsigned count)
+{
+    bool shown = (state[TRESTLEPIP_AT_SENSE_1] & TRESTLEPIP_SENSE_1_UNPRINTABLE) != 0;
+    return shown == (count != 0 && state[TRESTLEPIP_AT_BLOCK] == 0);
+}
+
+/* T-01: both are 0 or neither is, and both are 0 but for an accepted write or legend load. */
+const char *telling_fault(const struct run *r)
+{
+    unsigned first = trestlepip_first_unprintable(r->library_answer), count = trestlepip_unprintables(r->library_answer);
+    if ((first == 0) != (count == 0))
+        return "one of first unprintable and unprintables is 0, the other is not";
+    if (trestlepip_number(r->library_answer) != 0 || !translates(&r->call))
+        return count == 0 ? NULL : "unprintables are told, and the call is no accepted write or legend load";
+    if (!is_in_record(&r->call, first, count))
+        return "the record has no room for such unprintables";
+    return is_in_sense(store(r->library, STATE), count) ? NULL : "sense byte 1 does not agree with the unprintables";
 }

@@ -24,4 +24,7 @@ bool buffers_differ(const struct run *r, struct difference *d);
 /* Whether a refused call changed what it must not, whatever the second program did; tells where. */
 bool refusal_changes(const struct run *r, struct difference *d);
 
+/* What is wrong in what the library's answer tells of unprintable positions, whatever the second program did; null if nothing is. */
+const char *telling_fault(const struct run *r);
+
 #endif

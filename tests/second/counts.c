@@ -23,16 +23,10 @@ static unsigned causes_if_allowed(const struct call *c, uint8_t *const before[ST
     return state[TRESTLEPIP_AT_SENSE_0] & 0x08 ? state[TRESTLEPIP_AT_SENSE_1] : 0;
 }
 
-/* Only writes and the legend load can have causes that Block hides. */
-static bool translates(uint8_t command)
-{
-    return command == 0x35 || command % 8 == 1;
-}
-
-/* An accepted command: its causes, shown and hidden. */
+/* An accepted command: its causes, shown and hidden. Only what translates has causes that Block hides. */
 static void add_causes(struct counts *n, const struct call *c, uint8_t *const before[STORES], const uint8_t *state)
 {
-    unsigned hidden = before[STATE][TRESTLEPIP_AT_BLOCK] && translates(c->command) ? causes_if_allowed(c, before) : 0;
+    unsigned hidden = before[STATE][TRESTLEPIP_AT_BLOCK] && translates(c) ? causes_if_allowed(c, before) : 0;
     n->hidden_unprintable += (hidden & UNPRINTABLE) != 0;
     n->hidden_multiple += (hidden & MULTIPLE) != 0;
     n->channel_9 += state[TRESTLEPIP_AT_SENSE_0] & 0x01;
@@ -48,15 +42,122 @@ static void add_depth(struct counts *n, const struct call *c, const uint8_t *sta
     n->all_slots_loaded += loaded[0] && loaded[1] && loaded[2] && loaded[3];
 }
 
+/* The texts of a record: how many, their positions, and those with code FF. A bad text has an unprintable position; the first bad one also has its
+ * place among the texts, from 1, and its positions. */
+struct texts {
+    unsigned count, positions, ff;
+    unsigned bad, first_bad, first_bad_positions;
+};
+
+/* A byte's code, looked up in the stores so that what is counted does not rest on the programs that are compared. */
+static uint8_t code_of(uint8_t *const before[STORES], uint8_t byte)
+{
+    unsigned selected = before[STATE][TRESTLEPIP_AT_SELECTED];
+    unsigned slot = before[STATE][TRESTLEPIP_AT_LOADED + selected] ? selected : 0;
+    return before[TABLES][slot * SLOT_BYTES + byte];
+}
+
+/* The same for what cannot be printed. */
+static bool is_unprintable(uint8_t *const before[STORES], uint8_t code)
+{
+    return code == 0xFF || before[STATE][TRESTLEPIP_AT_PITCH + trestlepip_module(code)] == 0;
+}
+
+/* One text more. */
+static void look_at_text(struct texts *t, uint8_t *const before[STORES], const uint8_t *bytes, unsigned count)
+{
+    bool bad = false;
+    for (unsigned i = 0; i < count; i++) {
+        uint8_t code = code_of(before, bytes[i]);
+        bad = bad || is_unprintable(before, code);
+        t->ff += code == 0xFF;
+    }
+    t->count++;
+    t->positions += count;
+    if (t->bad == 0 && bad) {
+        t->first_bad = t->count;
+        t->first_bad_positions = count;
+    }
+    t->bad += bad;
+}
+
+/* Whether a whole segment that the load takes begins a record. */
+static bool begins_with_segment(const uint8_t *record, size_t count)
+{
+    return count > SEGMENT_HEAD && count - SEGMENT_HEAD >= record[5] && legends_cause(record, (size_t)SEGMENT_HEAD + record[5]) == 0;
+}
+
+/* The texts of a legend load, up to its fault if it has one. */
+static void look_at_segments(struct texts *t, uint8_t *const before[STORES], const struct call *c)
+{
+    for (size_t at = 0; begins_with_segment(c->record + at, c->record_len - at); at += (size_t)SEGMENT_HEAD + c->record[at + 5])
+        look_at_text(t, before, c->record + at + SEGMENT_HEAD, c->record[at + 5]);
+}
+
+/* An answer that tells an unprintable position, beside the texts that it is about. */
+static void add_told(struct told_counts *n, uint64_t answer, const struct texts *t, const uint8_t *state)
+{
+    unsigned first = trestlepip_first_unprintable(answer), told = trestlepip_unprintables(answer);
+    n->block_off += !state[TRESTLEPIP_AT_BLOCK];
+    n->block_on += state[TRESTLEPIP_AT_BLOCK];
+    n->one += told == 1;
+    n->several += told > 1;
+    n->all += told == t->positions;
+    n->first_1 += first == 1;
+    n->first_middle += first > 1 && first < t->first_bad_positions;
+    n->first_last += first > 1 && first == t->first_bad_positions;
+    n->first_204 += first == LINE_CELLS;
+    n->by_table_0 += !state[TRESTLEPIP_AT_LOADED + state[TRESTLEPIP_AT_SELECTED]];
+    n->by_modules += t->ff == 0;
+}
+
+/* An accepted write; the code for 40 fills the line after a record that is shorter. */
+static void add_write(struct counts *n, const struct call *c, uint64_t answer, uint8_t *const before[STORES])
+{
+    struct texts t = { 0 };
+    unsigned told = trestlepip_unprintables(answer);
+    look_at_text(&t, before, c->record, (unsigned)c->record_len);
+    if (told != 0)
+        add_told(&n->write_tells, answer, &t, before[STATE]);
+    n->fill_unprintable += told == 0 && t.bad == 0 && c->record_len < LINE_CELLS && is_unprintable(before, code_of(before, 0x40));
+}
+
+/* A legend load of any answer except 9. */
+static void add_legend_load(struct counts *n, const struct call *c, uint64_t answer, uint8_t *const before[STORES])
+{
+    struct texts t = { 0 };
+    unsigned told = trestlepip_unprintables(answer), number = trestlepip_number(answer);
+    look_at_segments(&t, before, c);
+    if (told != 0)
+        add_told(&n->load_tells, answer, &t, before[STATE]);
+    n->later_segment += told != 0 && t.first_bad > 1;
+    n->two_segments += told != 0 && t.bad > 1;
+    n->most_text += told == TEXT_MOST;
+    n->unprintable_at_3 += number == TRESTLEPIP_LOAD_CHECK && t.bad != 0;
+    n->unprintable_at_4_or_5 += (number == TRESTLEPIP_PAGE_WAITING || number == TRESTLEPIP_PAGE_STARTED) && t.bad != 0;
+}
+
+/* A write or a legend load of any answer; the stores are looked into only where number 9 has not found them bad. */
+static void add_translation(struct counts *n, const struct call *c, uint64_t answer, uint8_t *const before[STORES])
+{
+    unsigned number = trestlepip_number(answer);
+    if (c->command == 0x35 && number != TRESTLEPIP_BAD_STORE)
+        add_legend_load(n, c, answer, before);
+    else if (c->command != 0x35 && number == TRESTLEPIP_ACCEPTED)
+        add_write(n, c, answer, before);
+}
+
 /* A command of any answer; No-Op leaves the sense of an earlier one, so that its causes are none of its own. */
 static void add_command(struct counts *n, const struct call *c, uint64_t answer, uint8_t *const before[STORES], const uint8_t *state)
 {
     n->page_ready += trestlepip_ready(answer);
     n->unit_exception += trestlepip_status(answer) & 0x01;
+    if (translates(c))
+        add_translation(n, c, answer, before);
     if (trestlepip_number(answer) != 0)
         return;
     n->command[c->command]++;
-    if (translates(c->command))
+    if (translates(c))
         add_depth(n, c, before[STATE]);
     if (c->command != 0x03 && c->command != 0x04)
         add_causes(n, c, before, state);

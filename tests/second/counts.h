@@ -13,12 +13,24 @@ struct list_counts {
     bool disturbed;
 };
 
+/* Accepted writes, or legend loads, that tell an unprintable position: by the switch, by how many they tell, by where in its text the first one is,
+ * and by why they are unprintable. Position 1 counts neither as a middle nor as a last one. */
+struct told_counts {
+    unsigned long block_off, block_on;
+    unsigned long one, several, all;
+    unsigned long first_1, first_middle, first_last, first_204;
+    unsigned long by_table_0, by_modules;
+};
+
 struct counts {
     unsigned long number[NUMBERS];
     unsigned long cause[CAUSES];
     unsigned long data_check[256];
     unsigned long hidden_unprintable, hidden_multiple;
     unsigned long unit_exception, channel_9;
+    struct told_counts write_tells, load_tells;
+    unsigned long fill_unprintable, later_segment, two_segments, most_text;
+    unsigned long unprintable_at_3, unprintable_at_4_or_5;
     unsigned long command[256];
     unsigned long form[FORMS];
     unsigned long page_ready, deferred_reset;

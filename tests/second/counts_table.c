@@ -40,6 +40,46 @@ static void report_rows(struct table *t, const struct counts *n)
             { "unit exception (channel 12)", n->unit_exception, 1 }, { "channel 9", n->channel_9, 1 });
 }
 
+/* Accepted writes that tell an unprintable position, and those that tell none though their fill would be one. */
+static void write_rows(struct table *t, const struct counts *n)
+{
+    const struct told_counts *w = &n->write_tells;
+    TABLE_ADD_ROWS(t, { "write that tells an unprintable position, Block off", w->block_off, 20 },
+            { "write that tells an unprintable position, Block on", w->block_on, 20 },
+            { "write that tells exactly one unprintable position", w->one, 20 },
+            { "write that tells more than one unprintable position", w->several, 20 },
+            { "write with all its positions unprintable", w->all, 20 },
+            { "write whose first unprintable position is 1", w->first_1, 20 },
+            { "write whose first unprintable position is in the middle", w->first_middle, 20 },
+            { "write whose first unprintable position is its last", w->first_last, 20 },
+            { "write whose first unprintable position is 204", w->first_204, 20 },
+            { "write with unprintable positions, the selected table not loaded", w->by_table_0, 20 },
+            { "write with unprintable positions by absent modules alone", w->by_modules, 20 },
+            { "write whose fill would be unprintable, its record not: tells none", n->fill_unprintable, 20 });
+}
+
+/* Accepted legend loads that tell an unprintable position, and refused ones that tell none though their text has one. */
+static void legend_rows(struct table *t, const struct counts *n)
+{
+    const struct told_counts *l = &n->load_tells;
+    TABLE_ADD_ROWS(t, { "legend load that tells an unprintable position, Block off", l->block_off, 20 },
+            { "legend load that tells an unprintable position, Block on", l->block_on, 20 },
+            { "legend load that tells exactly one unprintable position", l->one, 20 },
+            { "legend load that tells more than one unprintable position", l->several, 20 },
+            { "legend load with all its positions unprintable", l->all, 20 },
+            { "legend load that tells 7,956 unprintable positions, the most possible", n->most_text, 5 },
+            { "legend load whose first unprintable position is 1", l->first_1, 20 },
+            { "legend load whose first unprintable position is in the middle", l->first_middle, 20 },
+            { "legend load whose first unprintable position is its text's last", l->first_last, 20 },
+            { "legend load whose first unprintable position is 204", l->first_204, 5 },
+            { "legend load whose first unprintable position is in a later segment", n->later_segment, 20 },
+            { "legend load with unprintable positions in two segments or more", n->two_segments, 20 },
+            { "legend load with unprintable positions, the selected table not loaded", l->by_table_0, 20 },
+            { "legend load with unprintable positions by absent modules alone", l->by_modules, 20 },
+            { "legend load refused with 3 after an unprintable position: tells none", n->unprintable_at_3, 20 },
+            { "legend load of unprintable text refused with 4 or 5: tells none", n->unprintable_at_4_or_5, 20 });
+}
+
 /* The accepted commands of one skip kind, all channels together. */
 static unsigned long skips(const struct counts *n, unsigned lowest)
 {
@@ -118,6 +158,8 @@ struct faults counts_print(const struct counts *n)
     number_rows(&t, n);
     cause_rows(&t, n);
     report_rows(&t, n);
+    write_rows(&t, n);
+    legend_rows(&t, n);
     command_rows(&t, n);
     form_rows(&t, n);
     page_rows(&t, n);

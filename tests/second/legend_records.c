@@ -1,6 +1,8 @@
 /* Records for the copy modification load: segments that it takes, and near misses. */
 #include "making.h"
 
+#include <string.h>
+
 /* The copies and lines of a segment: mostly some that the page has. */
 static void segment_place(struct generator *g, uint8_t *s)
 {
@@ -40,6 +42,20 @@ static void segments(struct generator *g, struct call *c, size_t total, unsigned
         at += HEAD + positions;
     }
     c->record_len = total;
+}
+
+/* As much text as a load takes: all of it unprintable, or the last position of one segment alone. */
+static void segments_of_most_text(struct generator *g, struct call *c)
+{
+    const size_t size = HEAD + LINE_CELLS, count = TEXT_MOST / LINE_CELLS;
+    uint8_t same = byte_by_table(g, percent(g, 50));
+    for (size_t at = 0; at < count * size; at += size) {
+        segment(g, c->record + at, LINE_CELLS);
+        memset(c->record + at + HEAD, same, LINE_CELLS);
+    }
+    size_t last = size * below(g, count) + size - 1;
+    c->record[last] = byte_by_table(g, false);
+    c->record_len = count * size;
 }
 
 /* The place of one of the segments of a record that the load takes. */
@@ -85,6 +101,8 @@ void legends_record(struct generator *g, struct call *c)
     static const unsigned wanted[] = { 1, 4, 12, 40, 204 };
     size_t total = legends_total(g);
     segments(g, c, total, wanted[below(g, COUNT(wanted))]);
+    if (permille(g, 20))
+        segments_of_most_text(g, c);
     if (percent(g, 22))
         legends_fault(g, c);
     if (permille(g, 10))

@@ -78,3 +78,21 @@ unsigned slot_to_load(const struct generator *g)
         slot++;
     return slot == TRESTLEPIP_SLOTS || !is_loaded(g, selected) ? selected : slot;
 }
+
+/* Whether the table that serves can print a byte of a text. */
+static bool is_printable(const struct generator *g, unsigned text_byte)
+{
+    const uint8_t *s = state_of(g);
+    unsigned selected = s[TRESTLEPIP_AT_SELECTED] % TRESTLEPIP_SLOTS;
+    uint8_t code = g->stores[TABLES][(is_loaded(g, selected) ? selected : 0) * SLOT_BYTES + text_byte];
+    return code != 0xFF && s[TRESTLEPIP_AT_PITCH + trestlepip_module(code)] != 0;
+}
+
+/* A byte that the table which serves can print, or one that it cannot; any byte if there is none. */
+uint8_t byte_by_table(struct generator *g, bool printable)
+{
+    unsigned first = byte(g), passed = 0;
+    while (passed < SLOT_BYTES && is_printable(g, (first + passed) % SLOT_BYTES) != printable)
+        passed++;
+    return (uint8_t)(first + passed);
+}

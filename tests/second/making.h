@@ -59,6 +59,9 @@ unsigned slot_near(struct generator *g);
 /* A slot that is not loaded: the selected one if it is not, else the lowest; the selected one if all are loaded. */
 unsigned slot_to_load(const struct generator *g);
 
+/* A byte that the table which serves can print, or one that it cannot; any byte if there is none. */
+uint8_t byte_by_table(struct generator *g, bool printable);
+
 /* The text of a write or of a segment; count is not 0. */
 void text(struct generator *g, uint8_t *bytes, size_t count);
 

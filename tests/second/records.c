@@ -30,16 +30,25 @@ static void text_sparse(struct generator *g, uint8_t *bytes, size_t count)
     }
 }
 
+/* A text with one unprintable position, often the last. */
+static void text_but_one(struct generator *g, uint8_t *bytes, size_t count)
+{
+    memset(bytes, byte_by_table(g, true), count);
+    size_t at = percent(g, 50) ? count - 1 : below(g, count);
+    bytes[at] = byte_by_table(g, false);
+}
+
 /* The text of a write or of a segment; count is not 0. */
 void text(struct generator *g, uint8_t *bytes, size_t count)
 {
-    switch (WEIGHTED(g, 30, 20, 25, 8, 10, 7)) {
+    switch (WEIGHTED(g, 30, 20, 25, 8, 10, 7, 3)) {
     case 0: text_of_few(g, bytes, count); break;
     case 1: text_printable(g, bytes, count); break;
     case 2: text_sparse(g, bytes, count); break;
     case 3: generator_fill(g, bytes, count); break;
     case 4: memset(bytes, percent(g, 50) ? 0x40 : 0x6D, count); break;
-    default: memset(bytes, byte(g), count); break;
+    case 5: memset(bytes, byte(g), count); break;
+    default: text_but_one(g, bytes, count); break;
     }
 }
 

@@ -99,12 +99,15 @@ static bool agree(const struct run *r)
     struct difference d;
     bool same_answer = r->library_answer == r->second_answer;
     bool buffers = buffers_differ(r, &d) || refusal_changes(r, &d);
-    if (same_answer && !buffers)
+    const char *fault = telling_fault(r);
+    if (same_answer && !buffers && fault == NULL)
         return true;
     print_place(r);
     print_answers("library", r->library_answer, "second", r->second_answer);
     if (buffers)
         print_difference(&d);
+    if (fault != NULL)
+        printf("the library's answer by itself: %s\n", fault);
     return false;
 }
 
