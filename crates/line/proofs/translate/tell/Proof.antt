@@ -64,5 +64,6 @@ tell-spec =
     (λ c. search needs)
     then-requires
     (λ c. search needs)
+    (λ c. search needs)
     loop-again
     returns)
