@@ -6,6 +6,10 @@
 #define SAYS_BEFORE_SHEETS "before any sheet, %s: "
 
 #define SAYS_DATA_CHECK "data check %02X, %s\n"
+#define SAYS_UNPRINTABLE "data check %02X, %s: first in column %u, %u in all\n"
+#define SAYS_HIDDEN "Block hid data check %02X, %s: first in column %u, %u in all\n"
+#define SAYS_LEGEND "data check %02X, %s: first at place %u in a legend's text, %u in all\n"
+#define SAYS_HIDDEN_LEGEND "Block hid data check %02X, %s: first at place %u in a legend's text, %u in all\n"
 #define SAYS_CHANNEL_9 "channel 9 came, which the form does not have\n"
 #define SAYS_CHANNEL_12 "channel 12 came at the wrong line\n"
 #define SAYS_NO_CHANNEL_12 "channel 12 did not come at the last weight\n"

@@ -102,9 +102,9 @@ void spool_send_last(struct spool *spool, uint8_t command, const uint8_t *record
 /* Writes the composed copy as text, unless another is the only one wanted: its lines up to the last that is not blank. */
 void show_copy(struct spool *spool, uint64_t answer);
 
-/* Each report says the sheet in work, the line, and the call. */
+/* Each report says the sheet in work, the line, and the call. The checks are those of a command's answer, with the sense read after it. */
 void report_refusal(const struct spool *spool, uint64_t answer);
-void report_checks(const struct spool *spool, const uint8_t *sense);
+void report_checks(const struct spool *spool, uint64_t answer, const uint8_t *sense);
 void report_channel_12(const struct spool *spool, bool came);
 void report_not_written(const struct spool *spool);
 

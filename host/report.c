@@ -27,11 +27,22 @@ void report_refusal(const struct spool *spool, uint64_t answer)
         fprintf(spool->reports, SAYS_REFUSAL, number, text);
 }
 
-/* The bits of sense byte 1, which has other meanings unless byte 0 says data check. */
+/* The answer tells of unprintable bytes, with Block on too, when the sense does not. Before any sheet there are no lines, only legends. */
+static void report_unprintable(const struct spool *spool, uint64_t answer, bool is_hidden)
+{
+    unsigned check = TRESTLEPIP_SENSE_1_UNPRINTABLE, first = trestlepip_first_unprintable(answer), count = trestlepip_unprintables(answer);
+    const char *text = trestlepip_data_check_text(check);
+    say_where(spool);
+    if (spool->sheet)
+        fprintf(spool->reports, is_hidden ? SAYS_HIDDEN : SAYS_UNPRINTABLE, check, text, first, count);
+    else
+        fprintf(spool->reports, is_hidden ? SAYS_HIDDEN_LEGEND : SAYS_LEGEND, check, text, first, count);
+}
+
+/* The data checks other than unprintable: bits of sense byte 1, which has other meanings unless byte 0 says data check. */
 static void report_data_checks(const struct spool *spool, unsigned bits)
 {
-    static const unsigned data_checks[] = {
-        TRESTLEPIP_SENSE_1_UNPRINTABLE, TRESTLEPIP_SENSE_1_NO_TABLE, TRESTLEPIP_SENSE_1_NO_MATCH, TRESTLEPIP_SENSE_1_MULTIPLE};
+    static const unsigned data_checks[] = {TRESTLEPIP_SENSE_1_NO_TABLE, TRESTLEPIP_SENSE_1_NO_MATCH, TRESTLEPIP_SENSE_1_MULTIPLE};
     for (size_t i = 0; i < sizeof data_checks / sizeof *data_checks; i++)
         if (bits & data_checks[i]) {
             say_where(spool);
@@ -39,8 +50,10 @@ static void report_data_checks(const struct spool *spool, unsigned bits)
         }
 }
 
-void report_checks(const struct spool *spool, const uint8_t *sense)
+void report_checks(const struct spool *spool, uint64_t answer, const uint8_t *sense)
 {
+    if (trestlepip_unprintables(answer) > 0)
+        report_unprintable(spool, answer, (sense[3] & TRESTLEPIP_SENSE_3_BLOCKED) != 0);
     if (sense[0] & TRESTLEPIP_SENSE_0_DATA_CHECK)
         report_data_checks(spool, sense[1]);
     if (sense[0] & TRESTLEPIP_SENSE_0_CHANNEL_9) {

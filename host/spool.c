@@ -39,14 +39,20 @@ static void hold_back(struct spool *spool)
         spool->all_held = true;
 }
 
-/* The sense is read at once: the next command sets it anew. */
-static void read_sense(struct spool *spool)
+/* Block hides an unprintable byte from status and sense, and not from the answer; a character is missing all the same. */
+static bool has_check(uint64_t answer)
+{
+    return (trestlepip_status(answer) & TRESTLEPIP_STATUS_UNIT_CHECK) != 0 || trestlepip_unprintables(answer) > 0;
+}
+
+/* Reports what the answer and the sense tell. The sense is read at once: the next command sets it anew. */
+static void read_sense(struct spool *spool, uint64_t answer)
 {
     uint8_t sense[TRESTLEPIP_SENSE_BYTES] = {0};
-    uint64_t answer = trestlepip_command(TRESTLEPIP_SENSE, NULL, 0, sense, sizeof sense, STORES(spool));
-    report_checks(spool, sense);
+    uint64_t sensed = trestlepip_command(TRESTLEPIP_SENSE, NULL, 0, sense, sizeof sense, STORES(spool));
+    report_checks(spool, answer, sense);
     hold_back(spool);
-    stop_if_refused(spool, answer);
+    stop_if_refused(spool, sensed);
 }
 
 /* Channel 12 stands where the weights of a sheet end, and a space alone tells of it: elsewhere the printer's lines are not those of the plan. */
@@ -115,8 +121,8 @@ static void send(struct spool *spool, bool is_last, uint8_t command, const uint8
     if (spool->stopped)
         return;
     check_channel_12(spool, answer, is_last);
-    if (trestlepip_status(answer) & TRESTLEPIP_STATUS_UNIT_CHECK)
-        read_sense(spool);
+    if (has_check(answer))
+        read_sense(spool, answer);
     if (trestlepip_ready(answer) && !spool->stopped)
         print_page(spool);
 }

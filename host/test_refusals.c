@@ -56,18 +56,31 @@ static void begin(uint32_t form)
     spool_start(&spool, form);
 }
 
-/* Ends the run, and looks for a line among its reports. */
-static void end(enum endings ending, const char *line, const char *what, unsigned number)
+/* Ends the run, and returns all its reports. */
+static const char *reports(enum endings ending, unsigned number)
 {
     enum endings ended = report_end(&spool, &plan);
     const char *text = written(spool.reports);
     fputs(text, stderr);
     check(ended == ending, "wrong ending after", number);
-    check(strstr(text, line) != NULL, what, number);
     fclose(spool.sheets);
+    return text;
 }
 
-static const uint8_t letter[] = {0xC1}, other_letter[] = {0xC2}, no_letter[] = {0x3F}, pair[] = {1, 0};
+/* Ends the run, and looks for a line among its reports. */
+static void end(enum endings ending, const char *line, const char *what, unsigned number)
+{
+    check(strstr(reports(ending, number), line) != NULL, what, number);
+}
+
+/* Ends the run, and asks for these reports and no others. */
+static void end_with(enum endings ending, const char *all, const char *what, unsigned number)
+{
+    check(strcmp(reports(ending, number), all) == 0, what, number);
+}
+
+enum { LETTER = 0xC1, NO_LETTER = 0x3F };
+static const uint8_t letter[] = {LETTER}, other_letter[] = {0xC2}, no_letter[] = {NO_LETTER}, pair[] = {1, 0};
 
 /* Leaves a completed page waiting, behind the spooler's back. */
 static void complete_page(void)
@@ -179,13 +192,20 @@ static void check_cause(FILE *page, unsigned cause)
     end(STOPPED, line, "not reported as on the page: cause", cause);
 }
 
-/* Each check with the commands that provoke it on line 1 of a sheet; the last is the one that is reported. Channels stand on line 2 of the form. */
+/* Parts of what is said: where a report begins, how that of an unprintable byte ends, another check, the sheet to hold back. */
+#define SHEET_7 "sheet 7 (Calf house, page 2 of 3), line 1, command "
+#define NO_SHEET "before any sheet, command "
+#define COLUMN_4 ": first in column 4, 2 in all\n"
+#define PLACE_3 ": first at place 3 in a legend's text, 2 in all\n"
+#define NO_TABLE SHEET_7 "01: data check 20, the selected table is not loaded\n"
+#define HOLD_7 "hold back all copies of sheet 7: Calf house, page 2 of 3\n"
+
+/* Each other check with the commands that provoke it on line 1 of a sheet; the last one is reported. Channels stand on line 2 of the form. */
 static const struct {
     const char *row;
     uint8_t channel, before, command;
     const uint8_t *record;
 } checks[] = {
-    {"80", 0, TRESTLEPIP_NO_OP, TRESTLEPIP_WRITE_NO_SPACE, no_letter},
     {"20", 0, TRESTLEPIP_SELECT_1, TRESTLEPIP_WRITE_NO_SPACE, letter},
     {"10", 0, TRESTLEPIP_NO_OP, TRESTLEPIP_WRITE_SKIP(2), letter},
     {"08", 0, TRESTLEPIP_WRITE_NO_SPACE, TRESTLEPIP_WRITE_NO_SPACE, other_letter},
@@ -200,14 +220,69 @@ static void check_check(FILE *page, size_t i)
     uint8_t forms[FORM / 4] = {0};
     forms[4] = checks[i].channel;
     expect(page, "| Check |", checks[i].row, "data check", text);
-    snprintf(line, sizeof line, "sheet 7 (Calf house, page 2 of 3), line 1, command %02X: %s", checks[i].command, checks[i].channel ? checks[i].row : text);
+    strcat(text, "\n");
+    snprintf(line, sizeof line, SHEET_7 "%02X: %s" HOLD_7, checks[i].command, checks[i].channel ? checks[i].row : text);
     begin(FORM);
     spool_send(&spool, TRESTLEPIP_LOAD_FCB, forms, sizeof forms);
     spool.sheet = &sheet;
     spool_send(&spool, checks[i].before, letter, sizeof letter);
     spool_send(&spool, checks[i].command, checks[i].record, 1);
     spool_send(&spool, TRESTLEPIP_CLEAR, NULL, 0);
-    end(HOLD_BACK, line, "not reported: check", (unsigned)i);
+    end_with(HOLD_BACK, line, "not reported: check", (unsigned)i);
+}
+
+/*
+ * Bytes that cannot be printed, sent after two other commands: two in a line, the first in column 4; two in legends, the first at place 3 of the
+ * second legend, which is the first that has one. All that is said is `before`, the check, and `after`.
+ */
+static const uint8_t bad_line[] = {LETTER, LETTER, LETTER, NO_LETTER, LETTER, NO_LETTER};
+static const uint8_t bad_legends[] = {
+    1, 1, 1, 1, 1, 1, LETTER,
+    1, 1, 2, 1, 1, 4, LETTER, LETTER, NO_LETTER, LETTER,
+    1, 1, 3, 1, 1, 1, NO_LETTER,
+};
+static const struct {
+    uint8_t first, second, command;
+    const char *before, *after;
+} unprintables[] = {
+    {TRESTLEPIP_NO_OP, TRESTLEPIP_NO_OP, TRESTLEPIP_WRITE_NO_SPACE, SHEET_7 "01: ", COLUMN_4 HOLD_7},
+    {TRESTLEPIP_NO_OP, TRESTLEPIP_BLOCK, TRESTLEPIP_WRITE_NO_SPACE, SHEET_7 "01: Block hid ", COLUMN_4 HOLD_7},
+    {TRESTLEPIP_BLOCK, TRESTLEPIP_ALLOW, TRESTLEPIP_WRITE_NO_SPACE, SHEET_7 "01: ", COLUMN_4 HOLD_7},
+    {TRESTLEPIP_NO_OP, TRESTLEPIP_BLOCK, TRESTLEPIP_WRITE_SKIP(1), SHEET_7 "89: Block hid ", COLUMN_4 HOLD_7},
+    {TRESTLEPIP_NO_OP, TRESTLEPIP_SELECT_1, TRESTLEPIP_WRITE_NO_SPACE, SHEET_7 "01: ", COLUMN_4 NO_TABLE HOLD_7},
+    {TRESTLEPIP_BLOCK, TRESTLEPIP_SELECT_1, TRESTLEPIP_WRITE_NO_SPACE, SHEET_7 "01: Block hid ", COLUMN_4 NO_TABLE HOLD_7},
+    {TRESTLEPIP_NO_OP, TRESTLEPIP_NO_OP, TRESTLEPIP_LOAD_COPY_MODIFICATION, NO_SHEET "35: ", PLACE_3 SAYS_HOLD_ALL},
+    {TRESTLEPIP_NO_OP, TRESTLEPIP_BLOCK, TRESTLEPIP_LOAD_COPY_MODIFICATION, NO_SHEET "35: Block hid ", PLACE_3 SAYS_HOLD_ALL},
+};
+
+/* Reported once, with Block or without, and the sheet is to be held back; a legend is on every sheet. */
+static void check_unprintable(FILE *page, size_t i)
+{
+    char text[ROOM], all[3 * ROOM];
+    expect(page, "| Check |", "80", "data check", text);
+    snprintf(all, sizeof all, "%s%s%s", unprintables[i].before, text, unprintables[i].after);
+    begin(FORM);
+    spool_send(&spool, unprintables[i].first, NULL, 0);
+    spool_send(&spool, unprintables[i].second, NULL, 0);
+    if (unprintables[i].command == TRESTLEPIP_LOAD_COPY_MODIFICATION) {
+        spool_send(&spool, unprintables[i].command, bad_legends, sizeof bad_legends);
+    } else {
+        spool.sheet = &sheet;
+        spool_send(&spool, unprintables[i].command, bad_line, sizeof bad_line);
+    }
+    spool_send(&spool, TRESTLEPIP_CLEAR, NULL, 0);
+    end_with(HOLD_BACK, all, "not reported: unprintable", (unsigned)i);
+}
+
+/* Block by itself is no reason to hold a sheet back. */
+static void check_good_line(void)
+{
+    begin(FORM);
+    spool_send(&spool, TRESTLEPIP_BLOCK, NULL, 0);
+    spool.sheet = &sheet;
+    spool_send(&spool, TRESTLEPIP_WRITE_NO_SPACE, letter, sizeof letter);
+    spool_send(&spool, TRESTLEPIP_CLEAR, NULL, 0);
+    end_with(ALL_GOOD, "", "reported, though good, after", TRESTLEPIP_BLOCK);
 }
 
 static void check_no_channel_12(void)
@@ -218,7 +293,7 @@ static void check_no_channel_12(void)
     spool_send(&spool, TRESTLEPIP_CLEAR, NULL, 0);
     check(spool.complete == sheet.number && sheet.out && sheet.held, "not held back: channel", 12);
     spool_send(&spool, 0x00, NULL, 0);
-    end(STOPPED, SAYS_NO_CHANNEL_12 "sheet 7 (Calf house, page 2 of 3), line 1, command 00: refusal 1", "not reported: channel", 12);
+    end(STOPPED, SAYS_NO_CHANNEL_12 SHEET_7 "00: refusal 1", "not reported: channel", 12);
 }
 
 /* A sheet that did not come out is not to be held back. */
@@ -229,15 +304,6 @@ static void check_not_out(void)
     spool_send(&spool, TRESTLEPIP_WRITE_NO_SPACE, no_letter, sizeof no_letter);
     spool_send(&spool, 0x00, NULL, 0);
     end(STOPPED, "is not listed\n" SAYS_NONE_OUT, "said to be out: sheet", 7);
-}
-
-/* A legend that cannot be printed is on every sheet. */
-static void check_loads(void)
-{
-    static const uint8_t legend[] = {1, 1, 1, 1, 1, 1, 0x3F};
-    begin(FORM);
-    spool_send(&spool, TRESTLEPIP_LOAD_COPY_MODIFICATION, legend, sizeof legend);
-    end(HOLD_BACK, SAYS_HOLD_ALL, "not held back after load", TRESTLEPIP_LOAD_COPY_MODIFICATION);
 }
 
 /* realloc that gives memory so many times more. */
@@ -307,13 +373,15 @@ int main(int argc, char **argv)
         check_cause(page, cause);
     for (size_t i = 0; i < sizeof checks / sizeof *checks; i++)
         check_check(page, i);
+    for (size_t i = 0; i < sizeof unprintables / sizeof *unprintables; i++)
+        check_unprintable(page, i);
     check_no_channel_12();
     check_not_out();
-    check_loads();
+    check_good_line();
     check_memory();
     check_text();
     fclose(page);
     printf("refusals: %u numbers, %u causes and %zu checks provoked, %u faults\n", (unsigned)LISTED_NUMBERS, (unsigned)LISTED_CAUSES,
-        sizeof checks / sizeof *checks + 2, failures);
+        sizeof checks / sizeof *checks + sizeof unprintables / sizeof *unprintables + 1, failures);
     return failures == 0 ? 0 : 1;
 }
