@@ -53,6 +53,8 @@ pub fn answer(a: u64) {
     figure(b" lines", a / 0x100_0000 % 0x100);
     figure(b" copy", a / 0x1_0000_0000 % 0x200);
     figure(b" mark", a / 0x2_0000 % 2);
+    figure(b" first", a / 0x200_0000_0000 % 0x100);
+    figure(b" count", a / 0x2_0000_0000_0000);
 }
 
 // Sense bytes 0, 1, 2, 22 and 23, the current line, and that line's first cell.
