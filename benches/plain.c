@@ -53,20 +53,24 @@ static inline bool page_started(const struct printer *p)
 }
 
 /* Writing a line: Block hides 80 and 08; causes of writing and of movement are joined. */
-static inline uint64_t accepted(struct printer *p, unsigned causes, struct movement m)
+static inline uint64_t accepted(struct printer *p, struct findings found, struct movement m)
 {
-    unsigned shown = causes | (m.missed ? UNMATCHED : 0u);
+    unsigned shown = found.causes | (found.unprintables.count != 0 ? UNPRINTABLE : 0u) | (m.missed ? UNMATCHED : 0u);
     if (p->flags & BLOCKED)
         shown &= ~(unsigned)(UNPRINTABLE | COLLISION);
     unsigned byte_0 = (shown ? 0x08u : 0u) | m.nine;
     set_sense(p, byte_0, shown, 0);
     unsigned status = 0x0Cu | (byte_0 ? 0x02u : 0u) | m.twelve;
-    return (uint64_t)status << 8 | (uint64_t)m.ready << 16 | (uint64_t)m.lines << 24;
+    return (uint64_t)status << 8 | (uint64_t)m.ready << 16 | (uint64_t)m.lines << 24
+        | (uint64_t)found.unprintables.first << 41 | (uint64_t)found.unprintables.count << 49;
 }
 
-static inline uint64_t stand(struct printer *p, unsigned causes)
+/* What a command finds that translates nothing. */
+static const struct findings nothing = { 0 };
+
+static inline uint64_t stand(struct printer *p, struct findings found)
 {
-    return accepted(p, causes, (struct movement){ .line = p->line });
+    return accepted(p, found, (struct movement){ .line = p->line });
 }
 
 /* Movement: space n, a line at a time; the end of the page ends it. */
@@ -98,27 +102,27 @@ static inline struct movement skip(const struct printer *p, unsigned lines, unsi
 }
 
 /* Movement: the form goes to a line; a completed page waits. */
-static inline uint64_t move(struct printer *p, unsigned causes, struct movement m)
+static inline uint64_t move(struct printer *p, struct findings found, struct movement m)
 {
     if (m.lines != 0)
         p->flags &= (uint8_t)~WRITTEN;
     if (m.ready)
         p->flags |= WAITING;
     p->line = (uint8_t)m.line;
-    return accepted(p, causes, m);
+    return accepted(p, found, m);
 }
 
 static inline uint64_t move_on(struct printer *p, struct command c, unsigned lines)
 {
-    return move(p, 0, c.kind == SPACE_NOW ? space(p, lines, c.n) : skip(p, lines, c.n));
+    return move(p, nothing, c.kind == SPACE_NOW ? space(p, lines, c.n) : skip(p, lines, c.n));
 }
 
 static inline uint64_t write_and_move(struct printer *p, struct command c, unsigned lines, const uint8_t *record, size_t n,
         uint8_t *page, const uint8_t *tables)
 {
-    unsigned causes = write_line(p, record, n, page, tables);
+    struct findings found = write_line(p, record, n, page, tables);
     p->flags |= WRITTEN;
-    return move(p, causes, c.kind == WRITE_SPACE ? space(p, lines, c.n) : skip(p, lines, c.n));
+    return move(p, found, c.kind == WRITE_SPACE ? space(p, lines, c.n) : skip(p, lines, c.n));
 }
 
 /* Movement: Clear on a started page; the line that was written is left. */
@@ -126,7 +130,7 @@ static uint64_t complete(struct printer *p)
 {
     p->flags = (uint8_t)((p->flags & ~WRITTEN) | WAITING);
     p->line = 1;
-    return accepted(p, 0, (struct movement){ .line = 1, .ready = true });
+    return accepted(p, nothing, (struct movement){ .line = 1, .ready = true });
 }
 
 /* Form and forms control: 6 lines per inch, channel 1 at line 1. */
@@ -160,7 +164,7 @@ static uint64_t initialize(struct printer *p, uint8_t *legends, uint8_t *tables)
         return complete(p);
     }
     reset(p, legends, tables);
-    return stand(p, 0);
+    return stand(p, nothing);
 }
 
 static uint64_t sense(struct printer *p, uint8_t *reply, size_t reply_len)
@@ -211,15 +215,15 @@ static uint64_t load(struct printer *p, unsigned kind, const uint8_t *record, si
     enum trestlepip_causes cause = load_cause(p, kind, record, n);
     if (cause != TRESTLEPIP_NO_CAUSE)
         return load_check(p, cause, n);
-    unsigned causes = 0;
+    struct findings found = nothing;
     switch (kind) {
     case LOAD_FCB: load_fcb(p, record, n); break;
     case LOAD_TABLE: load_table(p, record, tables); break;
-    case LOAD_LEGENDS: causes = load_legends(p, record, n, legends, tables); break;
+    case LOAD_LEGENDS: found = load_legends(p, record, n, legends, tables); break;
     case LOAD_SEQUENCE: load_sequence(p, record, n); break;
     default: p->reference = record[0];
     }
-    return stand(p, causes);
+    return stand(p, found);
 }
 
 /* The control commands but No-Op and Sense. */
@@ -227,12 +231,12 @@ static uint64_t control(struct printer *p, struct command c, uint8_t *legends, u
 {
     switch (c.kind) {
     case INITIALIZE: return initialize(p, legends, tables);
-    case CLEAR: return page_started(p) ? complete(p) : stand(p, 0);
+    case CLEAR: return page_started(p) ? complete(p) : stand(p, nothing);
     case BLOCK: p->flags |= BLOCKED; break;
     case ALLOW: p->flags &= (uint8_t)~BLOCKED; break;
     default: p->selected = c.n;
     }
-    return stand(p, 0);
+    return stand(p, nothing);
 }
 
 /* Numbers: the order 9, 1, 4, then what each kind of command can get. */

@@ -7,6 +7,17 @@
 /* Causes of a data check, in sense byte 1. */
 enum { UNPRINTABLE = 0x80, UNLOADED = 0x20, UNMATCHED = 0x10, COLLISION = 0x08 };
 
+/* T-01: the first unprintable position of a text, from 1, or 0 for none; and how many there are. */
+struct unprintables {
+    unsigned first, count;
+};
+
+/* What a write or a legend load finds. */
+struct findings {
+    unsigned causes;
+    struct unprintables unprintables;
+};
+
 static inline bool loaded(const struct printer *p)
 {
     return (p->flags & LOADED_0 << p->selected) != 0;
@@ -66,14 +77,19 @@ static inline void look_up(uint8_t *cells, const uint8_t *bytes, size_t n, const
 }
 
 /* Stand-ins, in a pass that is made only where something is unprintable. */
-static inline unsigned replace_unprintable(uint8_t *cells, size_t n, unsigned pitches, const uint8_t *table)
+static inline struct unprintables replace_unprintable(uint8_t *cells, size_t n, unsigned pitches, const uint8_t *table)
 {
+    struct unprintables found = { 0, 0 };
     if (!any_unprintable(cells, n, pitches))
-        return 0;
+        return found;
     const uint8_t other = stand_in(pitches, table);
     for (size_t i = 0; i < n; i++)
-        cells[i] = unprintable(pitches, cells[i]) ? other : cells[i];
-    return UNPRINTABLE;
+        if (unprintable(pitches, cells[i])) {
+            cells[i] = other;
+            if (found.count++ == 0)
+                found.first = (unsigned)i + 1;
+        }
+    return found;
 }
 
 /* How readily a cell gives way: a blank to all, an underscore to a character, a character to none. The module's bits are set, and so do not count. */
@@ -96,24 +112,24 @@ static inline unsigned merge(uint8_t *restrict line, const uint8_t *restrict cel
 }
 
 /* The stand-in goes to all cells first: a size that the compiler knows is quicker than just the rest. */
-static inline unsigned fill_line(uint8_t *cells, const uint8_t *bytes, size_t n, unsigned pitches, const uint8_t *table)
+static inline struct unprintables fill_line(uint8_t *cells, const uint8_t *bytes, size_t n, unsigned pitches, const uint8_t *table)
 {
     memset(cells, stand_in(pitches, table), LINE_CELLS);
     look_up(cells, bytes, n, table);
     return replace_unprintable(cells, n, pitches, table);
 }
 
-/* The first write on a line goes straight to the page; a later one is made aside and merged. Gives the causes. */
-static inline unsigned write_line(const struct printer *p, const uint8_t *record, size_t n, uint8_t *page, const uint8_t *tables)
+/* The first write on a line goes straight to the page; a later one is made aside and merged. */
+static inline struct findings write_line(const struct printer *p, const uint8_t *record, size_t n, uint8_t *page, const uint8_t *tables)
 {
     uint8_t *line = page + (p->line - 1) * LINE_CELLS;
     const uint8_t *table = serving(p, tables);
     unsigned causes = loaded(p) ? 0 : UNLOADED;
     if ((p->flags & WRITTEN) == 0)
-        return causes | fill_line(line, record, n, p->pitches, table);
+        return (struct findings){ causes, fill_line(line, record, n, p->pitches, table) };
     uint8_t cells[LINE_CELLS];
-    causes |= fill_line(cells, record, n, p->pitches, table);
-    return causes | merge(line, cells);
+    struct unprintables found = fill_line(cells, record, n, p->pitches, table);
+    return (struct findings){ causes | merge(line, cells), found };
 }
 
 #endif

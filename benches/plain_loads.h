@@ -108,19 +108,25 @@ static inline enum trestlepip_causes legends_cause(const uint8_t *record, size_t
     return n - end < SEGMENT_HEAD || !head_bad(record + end) ? TRESTLEPIP_SEGMENT_ENDS : TRESTLEPIP_SEGMENT_FIELDS;
 }
 
-/* The segments with their text through the table, then 00. Gives the causes. */
-static inline unsigned load_legends(const struct printer *p, const uint8_t *record, size_t n, uint8_t *legends, const uint8_t *tables)
+/* T-01: those of a text, and then of the next. */
+static inline struct unprintables both(struct unprintables a, struct unprintables b)
+{
+    return (struct unprintables){ a.count == 0 ? b.first : a.first, a.count + b.count };
+}
+
+/* The segments with their text through the table, then 00. */
+static inline struct findings load_legends(const struct printer *p, const uint8_t *record, size_t n, uint8_t *legends, const uint8_t *tables)
 {
     const uint8_t *table = serving(p, tables);
-    unsigned causes = loaded(p) ? 0 : UNLOADED;
+    struct findings found = { .causes = loaded(p) ? 0 : UNLOADED };
     for (size_t at = 0; at < n; at += segment_size(record + at)) {
         memcpy(legends + at, record + at, SEGMENT_HEAD);
         look_up(legends + at + SEGMENT_HEAD, record + at + SEGMENT_HEAD, record[at + POSITIONS], table);
     }
     for (size_t at = 0; at < n; at += segment_size(record + at))
-        causes |= replace_unprintable(legends + at + SEGMENT_HEAD, record[at + POSITIONS], p->pitches, table);
+        found.unprintables = both(found.unprintables, replace_unprintable(legends + at + SEGMENT_HEAD, record[at + POSITIONS], p->pitches, table));
     memset(legends + n, 0, LEGEND_BYTES - n);
-    return causes;
+    return found;
 }
 
 static inline void load_table(struct printer *p, const uint8_t *record, uint8_t *tables)

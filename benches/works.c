@@ -138,6 +138,18 @@ static void make_write(struct making *m, size_t bytes, unsigned lpi)
     measure_often(w, printable(lpi) - 1, CALL_COMMAND, 0x09, m->text, bytes);
 }
 
+/* Two characters that the starting table does not have, one near each end: only such a line is looked through. */
+static void make_bad_write(struct making *m, size_t bytes)
+{
+    struct work *w = next_work(m);
+    uint8_t *text = record_of(bytes);
+    snprintf(w->name, sizeof w->name, "write and space 1, %zu bytes, 2 unprintable, 6 lines per inch", bytes);
+    fill_text(text, bytes);
+    text[9] = text[bytes - 9] = 0x3F;
+    ready_form(w, FORM, 6);
+    measure_often(w, printable(6) - 1, CALL_COMMAND, 0x09, text, bytes);
+}
+
 static void make_pair(struct making *m, size_t bytes)
 {
     struct work *w = next_work(m);
@@ -244,6 +256,8 @@ size_t works_make(struct work *works)
     make_write(&m, 132, 8);
     make_write(&m, 204, 6);
     make_write(&m, 204, 8);
+    make_bad_write(&m, 132);
+    make_bad_write(&m, 204);
     make_pair(&m, 132);
     make_pair(&m, 204);
     make_page(&m);

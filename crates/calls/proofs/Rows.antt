@@ -284,9 +284,11 @@ ours =
     ∷ after (cmd 0x73 ∷ []) (with 0x01 (0xC1 ∷ 0x3F ∷ 0xC2 ∷ 0x00 ∷ [])) (telling 2 2 fine) noSense (withBlocked (on writing) true) (page (1 ∷ 0 ∷ 2 ∷ []))
     ∷ after (with 0x83 (filled slotSize blankless) ∷ []) (with 0x01 (0xC1 ∷ [])) fine noSense (on writing) (stores [] [] blankless)
     ∷ after (cmd 0x57 ∷ []) (with 0x01 (0xC1 ∷ 0x3F ∷ [])) (telling 2 1 checks) (sense3 0x08 0xA0 0) (withSlots (on writing) (slot 1)) (page (1 ∷ []))
-    -- The place in the text of the first segment that has one, and the number over all; a refused load tells neither.
+    -- The place in the text of the first segment that has one, and the number over all, Block or no Block, by table 0 for an unloaded one; a refused load
+    -- tells neither.
     ∷ after [] (with 0x35 threeTexts) (telling 2 3 checks) (sense3 0x08 0x80 0) (on (at 1)) (legend threeStored [])
     ∷ after (cmd 0x73 ∷ []) (with 0x35 threeTexts) (telling 2 3 fine) noSense (withBlocked (on (at 1)) true) (legend threeStored [])
+    ∷ after (cmd 0x57 ∷ []) (with 0x35 threeTexts) (telling 2 3 checks) (sense3 0x08 0xA0 0) (withSlots (on (at 1)) (slot 1)) (legend threeStored [])
     ∷ after [] (with 0x35 (threeTexts ++ (1 ∷ []))) (says (LoadCheck SegmentEnds) 0x0E false 0) (sense3 0x02 0x80 0) (on (at 1)) (page [])
     -- Underscore then character, blank then code, code then blank, two underscores.
     ∷ after (with 0x01 (0x6D ∷ 0x40 ∷ 0xC1 ∷ 0x6D ∷ []) ∷ []) (with 0x01 (0xC1 ∷ 0xC2 ∷ 0x40 ∷ 0x6D ∷ [])) fine noSense (on writing) (page (1 ∷ 2 ∷ 1 ∷ 0x2D ∷ []))
