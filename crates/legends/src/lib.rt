@@ -101,7 +101,7 @@ pub fn legends_ok(legends: &[u8]) -> bool
 // One segment of a load: its head, and its text through the table. Tells the unprintable positions of the text.
 fn store_segment(to: &mut [u8], from: &[u8], pitches: [u8; 4], table: &[u8]) -> Unprintables
     requires { ⌜ (length (now to) ≡ length (now from)) × (headSize ≤ length (now from)) ⌝ }
-    requires { ⌜ length (now from) ≤ headSize + 255 ⌝ }
+    requires { ⌜ length (now from) ≤ 0xFFFF ⌝ }
     requires { ⌜ length (now table) ≡ slotSize ⌝ }
     ensures to { λ _. ⌜ now (to .exit) ≡ retext (translated pitches (now (table .entry))) (now (from .entry)) ⌝ }
     ensures found { λ r. ⌜ r ≡ told (unprintableAt pitches (now (table .entry)) (drop headSize (now (from .entry)))) ⌝ }

@@ -22,11 +22,6 @@ pub told-append : (ns ms : List ℕ)
 told-append [] ms = rw zero-add refl
 told-append (n ∷ ns) ms = rw (ne-eqb (suc (length ns)) 0 (λ e. omega (arith, e)), length-append) refl
 
--- one position, or none
-pub told-one : (t : Bool) (n : ℕ) → record { first = bit t n; count = bit t 1 } ≡ told (cond t (n ∷ []) [])
-told-one true n = refl
-told-one false n = refl
-
 -- Positions that a line has; and what is told of such, where a record has no more of them than a load may have bytes.
 abbrev pub positions : List ℕ → Bool
 positions ns = all (λ k. leb 1 k && leb k lineWidth) ns

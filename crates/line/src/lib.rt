@@ -28,7 +28,7 @@ impl Slots {
 
 // What is told of the unprintable positions of a text: the first of them, from 1, or 0 for none; and how many there are.
 pub struct Unprintables {
-    pub first: u8,
+    pub first: u16,
     pub count: u16,
 }
 
@@ -40,9 +40,16 @@ impl Unprintables {
         requires { ⌜ self .count + next .count ≤ 0xFFFF ⌝ }
         ensures { λ r. ⌜ ((ns ms : List ℕ) → self ≡ told ns → next ≡ told ms → r ≡ told (ns ++ ms)) ⌝ }
     {
+        let count = self.count + next.count;
+        if self.count == 0 {
+            return Unprintables {
+                first: next.first,
+                count: count,
+            };
+        }
         Unprintables {
-            first: seq::pick(self.count == 0, next.first, self.first),
-            count: self.count + next.count,
+            first: self.first,
+            count: count,
         }
     }
 }

@@ -65,7 +65,7 @@ pub struct Answer {
     pub copy: u16,
     pub mark: u8,
     // Of a write or a legend load: the first unprintable position, from 1, or 0 for none; and how many there are.
-    pub first: u8,
+    pub first: u16,
     pub count: u16,
 }
 

@@ -1,15 +1,15 @@
 -- The places of the elements that pass a test: as a loop finds them, how many there are, and that all are places of the list.
 use Prim.Native.Nat.{ℕ, zero, suc, _+_, _≤_, _<_}
-use mathlib.Core.Path.{_≡_, refl, ap, _∙_}
+use mathlib.Core.Path.{_≡_, refl, sym, ap, _∙_}
 use mathlib.Core.Bool.{Bool, true, false, cond, _&&_}
 use mathlib.Core.List.{List, [], _∷_, _++_, map}
 use native.Mathlib.Nat.{add-zero, le-of-suc-le-suc, not-suc-le-zero}
 use native.Mathlib.Omega.{arith}
-use lib.ListN.{length, getD, take}
+use lib.ListN.{length, getD, take, length-append}
 use lib.Seq.{take-all}
 use lib.Dec.{leb}
 use borrow.Author.Tests.{le-leb}
-use Rattle.seq.specs.Words.{any, all, placesFrom}
+use Rattle.seq.specs.Words.{any, all, placesFrom, bit}
 use native.Mathlib.Numerals.{add-one}
 use Rattle.seq.proofs.Laws.{and-both, or-left, or-right, cond-has}
 
@@ -28,9 +28,19 @@ module _ {A : Type 0} (f : A → Bool) where
       let at : n + suc k ≡ suc n + k = omega arith in
       rw at (cond-append (f x) n _ _ ∙ ap (λ (l : List ℕ). cond (f x) (n ∷ l) l) next)
 
-  pub places-more : (d : A) (n k : ℕ) (xs : List A) → k < length xs
+  places-more : (d : A) (n k : ℕ) (xs : List A) → k < length xs
       → placesFrom f n (take k xs) ++ cond (f (getD xs k d)) ((n + k) ∷ []) [] ≡ placesFrom f n (take (k + 1) xs)
   places-more d n k xs h = rw add-one (places-suc d n k xs h)
+
+  length-cond : (t : Bool) (n : ℕ) → length (cond t (n ∷ []) []) ≡ bit t 1
+  length-cond true n = refl
+  length-cond false n = refl
+
+  pub count-more : (d : A) (n k : ℕ) (xs : List A) → k < length xs
+      → length (placesFrom f n (take k xs)) + bit (f (getD xs k d)) 1 ≡ length (placesFrom f n (take (k + 1) xs))
+  count-more d n k xs h =
+      ap (λ (m : ℕ). length (placesFrom f n (take k xs)) + m) (sym (length-cond (f (getD xs k d)) (n + k)))
+      ∙ sym (length-append (placesFrom f n (take k xs)) _) ∙ ap length (places-more d n k xs h)
 
   pub places-all : (n k : ℕ) (xs : List A) → length xs ≤ k → placesFrom f n (take k xs) ≡ placesFrom f n xs
   places-all n k xs h = ap (placesFrom f n) (take-all k xs h)
@@ -39,6 +49,17 @@ module _ {A : Type 0} (f : A → Bool) where
   pub places-none : (n : ℕ) (xs : List A) → any f xs ≡ false → placesFrom f n xs ≡ []
   places-none n [] e = refl
   places-none n (x ∷ xs) e = rw (or-left (f x) (any f xs) e) (places-none (suc n) xs (or-right (f x) (any f xs) e))
+
+  -- the place of the first that passes
+  pub places-first : (d : A) (n k : ℕ) (xs : List A) → k < length xs → any f (take k xs) ≡ false → f (getD xs k d) ≡ true
+      → getD (placesFrom f n xs) 0 0 ≡ n + k
+  places-first d n k [] h e t = absurd (not-suc-le-zero h)
+  places-first d n zero (x ∷ xs) h e t = rw (t, add-zero n)
+  places-first d n (suc k) (x ∷ xs) h e t =
+      let none = or-left (f x) (any f (take k xs)) e in
+      let next = places-first d (suc n) k xs (le-of-suc-le-suc h) (or-right (f x) (any f (take k xs)) e) t in
+      let at : suc n + k ≡ n + suc k = omega arith in
+      rw none (next ∙ at)
 
   few-step : (t : Bool) (n m : ℕ) (xs : List ℕ) → length xs ≤ m → length (cond t (n ∷ xs) xs) ≤ suc m
   few-step true n m xs h = omega (arith, h)

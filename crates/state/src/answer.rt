@@ -15,7 +15,7 @@ fn join(
     cause: u8,
     lines: u8,
     copy: u16,
-    first: u8,
+    first: u16,
     count: u16,
 ) -> u64
     requires { ⌜ joined number status ready mark cause lines copy first count < 2 ^ 64 ⌝ }
