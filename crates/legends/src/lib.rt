@@ -108,7 +108,10 @@ fn store_segment(to: &mut [u8], from: &[u8], pitches: [u8; 4], table: &[u8]) -> 
 {
     let n = from.len();
     seq::copy_all(&mut to[0..HEAD_BYTES], &from[0..HEAD_BYTES]);
-    line::translate::translate(&mut to[HEAD_BYTES..n], &from[HEAD_BYTES..n], pitches, table)
+    if line::translate::codes(&mut to[HEAD_BYTES..n], &from[HEAD_BYTES..n], pitches, table) {
+        return line::translate::mend(&mut to[HEAD_BYTES..n], pitches, table);
+    }
+    Unprintables::NONE
 }
 
 // All segments of a record that passed, and 00 after them. Tells the unprintable positions of their texts.

@@ -81,7 +81,10 @@ fn make_line(cells: &mut [u8], sent: &[u8], pitches: [u8; 4], table: &[u8]) -> U
 {
     let n = sent.len();
     seq::fill(cells, translate::stand_in(pitches, table));
-    translate::translate(&mut cells[0..n], sent, pitches, table)
+    if translate::codes(&mut cells[0..n], sent, pitches, table) {
+        return translate::mend(&mut cells[0..n], pitches, table);
+    }
+    Unprintables::NONE
 }
 
 // Writes the record on a line of the page, counted from 1. A line that was written before, `later`, has its new cells made aside and merged.
