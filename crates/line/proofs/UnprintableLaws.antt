@@ -1,9 +1,8 @@
 -- What is told of unprintable positions: of one list of them after another; that first and number are both 0 or neither; and when it is a data check.
 use Prim.Native.Nat.{ℕ, suc, _+_, _/_, _≤_}
-use mathlib.Core.Path.{_≡_, refl, sym, _∙_}
-use mathlib.Core.Bool.{Bool, true, false, cond, not, _&&_}
-use mathlib.Core.List.{List, [], _∷_, _++_}
-use native.Mathlib.Nat.{zero-add}
+use mathlib.Core.Path.{_≡_, refl, sym, ap, _∙_}
+use mathlib.Core.Bool.{Bool, true, false, not, _&&_}
+use mathlib.Core.List.{List, [], _∷_, _++_, append-nil}
 use native.Mathlib.Omega.{arith}
 use lib.ListN.{length, getD, length-append}
 use lib.Dec.{eqb, leb}
@@ -16,11 +15,18 @@ use Rattle.line.specs.declared.Unprintables.{Unprintables}
 use Rattle.line.specs.declared.Causes.{Causes}
 use Rattle.line.specs.Line.{unprintable, unprintableAt, told, anyUnprintable, causeByte}
 
--- one list after another: the first of all is the first one's, unless that has none
-pub told-append : (ns ms : List ℕ)
-    → record { first = cond (eqb (length ns) 0) (getD ms 0 0) (getD ns 0 0); count = length ns + length ms } ≡ told (ns ++ ms)
-told-append [] ms = rw zero-add refl
-told-append (n ∷ ns) ms = rw (ne-eqb (suc (length ns)) 0 (λ e. omega (arith, e)), length-append) refl
+-- one list after another: a list with none adds nothing, and else the first of all is the first one's
+pub told-before : (ns ms : List ℕ) → length ms ≡ 0 → told ns ≡ told (ns ++ ms)
+told-before ns [] e = ap told (sym (append-nil ns))
+told-before ns (m ∷ ms) e = absurd (omega (arith, e))
+
+pub told-after : (ns ms : List ℕ) → length ns ≡ 0 → told ms ≡ told (ns ++ ms)
+told-after [] ms e = refl
+told-after (n ∷ ns) ms e = absurd (omega (arith, e))
+
+pub told-both : (ns ms : List ℕ) → (length ns ≡ 0 → ⊥) → record { first = getD ns 0 0; count = length ns + length ms } ≡ told (ns ++ ms)
+told-both [] ms h = absurd (h refl)
+told-both (n ∷ ns) ms h = rw length-append refl
 
 -- Positions that a line has; and what is told of such, where a record has no more of them than a load may have bytes.
 abbrev pub positions : List ℕ → Bool

@@ -40,16 +40,15 @@ impl Unprintables {
         requires { ⌜ self .count + next .count ≤ 0xFFFF ⌝ }
         ensures { λ r. ⌜ ((ns ms : List ℕ) → self ≡ told ns → next ≡ told ms → r ≡ told (ns ++ ms)) ⌝ }
     {
-        let count = self.count + next.count;
+        if next.count == 0 {
+            return self;
+        }
         if self.count == 0 {
-            return Unprintables {
-                first: next.first,
-                count: count,
-            };
+            return next;
         }
         Unprintables {
             first: self.first,
-            count: count,
+            count: self.count + next.count,
         }
     }
 }

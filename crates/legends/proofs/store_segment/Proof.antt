@@ -52,7 +52,7 @@ returns c =
     let entry = ap (λ (l : List ℕ). take n (drop headSize l)) (e .all) ∙ ap (take n) (drop-at x y headSize (e .head)) ∙ take-all n y most in
     let z = mended (a .pitches) (a .table .now) (drop headSize (a .from .now)) (entry ∙ e .text) (m .ensures .0) (m .ensures .1) in (
       ap (λ (l : List ℕ). take headSize l ++ (m .last .0 ++ drop n (drop headSize l))) (e .all) ∙ put-text x y (m .last .0) n (e .head) most
-      ∙ (λ j. k .copy-all .ensures j ++ z .cells j),
+          ∙ (λ j. k .copy-all .ensures j ++ z .cells j),
       z .found,
     )
 

@@ -1,27 +1,27 @@
--- The first of both, and their sum, are those of one list after the other.
+-- What is told of one list after the other.
 use mathlib.Core.Path.{_≡_, sym, ap, _∙_}
-use mathlib.Core.Bool.{Bool}
 use mathlib.Core.List.{List}
 use Prim.Native.Nat.{ℕ}
 use lib.ListN.{length}
-use lib.Dec.{eqb}
 use borrow.Author.Needs.{needs}
-use borrow.Author.Tests.{eq-eqb, ne-eqb}
 use Rattle.line.specs.declared.Unprintables.{Unprintables}
 use Rattle.line.specs.Line.{told}
-use Rattle.line.proofs.UnprintableLaws.{told-append}
+use Rattle.line.proofs.UnprintableLaws.{told-before, told-after, told-both}
 use Rattle.line.proofs.Unprintables.then.Statement.{statement}
 use Rattle.line.proofs.Unprintables.then.Tie as tie
 
--- whether the first list is empty
-none-told : {u : Unprintables} {t : Bool} (ns : List ℕ) → u ≡ told ns → eqb (u .count) 0 ≡ t → eqb (length ns) 0 ≡ t
-none-told ns e h = ap (λ (u : Unprintables). eqb (u .count) 0) (sym e) ∙ h
+-- how many a list has that is told
+counted : {u : Unprintables} (ns : List ℕ) → u ≡ told ns → length ns ≡ u .count
+counted ns e = ap (λ (u : Unprintables). u .count) (sym e)
 
 returns : tie.Need-returns
-returns c = λ ns ms e h. rw (e, h) (rw (none-told ns e (eq-eqb _ 0 (c .if1 .taken))) at (told-append ns ms))
+returns c = λ ns ms e h. e ∙ told-before ns ms (counted ms h ∙ c .if1 .taken)
 
 returns-2 : tie.Need-returns-2
-returns-2 c = λ ns ms e h. rw (e, h) (rw (none-told ns e (ne-eqb _ 0 (c .if1 .left))) at (told-append ns ms))
+returns-2 c = λ ns ms e h. h ∙ told-after ns ms (counted ns e ∙ c .if2 .taken)
+
+returns-3 : tie.Need-returns-3
+returns-3 c = λ ns ms e h. rw (e, h) (told-both ns ms (λ z. c .before .before .if2 .left (sym (counted ns e) ∙ z)))
 
 pub then-spec : {M : Type 1} → statement M
-then-spec = tie.close (tie.spec (λ c. search needs) returns returns-2)
+then-spec = tie.close (tie.spec returns returns-2 (λ c. search needs) returns-3)
