@@ -173,7 +173,7 @@ module _ (ps t sent : List ℕ) where
       abbrev here : List ℕ
       here = unprintableAt ps t (drop headSize first)
 
-      pub here-few : length here ≤ m
+      here-few : length here ≤ m
       here-few = omega (arith, unprintable-few ps t (drop headSize first), length-drop headSize first, first-length)
 
       step : (b : Unprintables) → b ≡ told (so-far .places ++ here) → Storing (take at out ++ (cells-of ++ drop m (drop at out))) b (at + m)

@@ -7,8 +7,8 @@ use numbers::Checked;
 use numbers::Stores;
 ghost use mathlib.Core.Path.{_≡_};
 ghost use mathlib.Core.Bool.{false};
-ghost use mathlib.Core.List.{map, flatten};
-ghost use Prim.Native.Nat.{_+_, _≤_};
+ghost use mathlib.Core.List.{List, _++_, map, flatten};
+ghost use Prim.Native.Nat.{ℕ, _+_, _≤_};
 ghost use lib.ListN.{length, drop};
 ghost use Rattle.seq.specs.Words.{firstOr};
 ghost use Rattle.numbers.specs.Sizes.{legendSize, slotSize};
@@ -98,20 +98,27 @@ pub fn legends_ok(legends: &[u8]) -> bool
     seq::zero_from(legends, at)
 }
 
-// One segment of a load: its head, and its text through the table. Tells the unprintable positions of the text.
-fn store_segment(to: &mut [u8], from: &[u8], pitches: [u8; 4], table: &[u8]) -> Unprintables
+// One segment of a load: its head, and its text through the table. Tells the unprintable positions of the text after those that were found before it.
+fn store_segment(
+    to: &mut [u8],
+    from: &[u8],
+    pitches: [u8; 4],
+    table: &[u8],
+    before: Unprintables,
+) -> Unprintables
     requires { ⌜ (length (now to) ≡ length (now from)) × (headSize ≤ length (now from)) ⌝ }
-    requires { ⌜ length (now from) ≤ 0xFFFF ⌝ }
     requires { ⌜ length (now table) ≡ slotSize ⌝ }
+    requires { ⌜ before .count + length (now from) ≤ 0xFFFF ⌝ }
     ensures to { λ _. ⌜ now (to .exit) ≡ retext (translated pitches (now (table .entry))) (now (from .entry)) ⌝ }
-    ensures found { λ r. ⌜ r ≡ told (unprintableAt pitches (now (table .entry)) (drop headSize (now (from .entry)))) ⌝ }
+    ensures found { λ r. ⌜ ((ns : List ℕ) → before ≡ told ns
+        → r ≡ told (ns ++ unprintableAt pitches (now (table .entry)) (drop headSize (now (from .entry))))) ⌝ }
 {
     let n = from.len();
     seq::copy_all(&mut to[0..HEAD_BYTES], &from[0..HEAD_BYTES]);
     if line::translate::codes(&mut to[HEAD_BYTES..n], &from[HEAD_BYTES..n], pitches, table) {
-        return line::translate::mend(&mut to[HEAD_BYTES..n], pitches, table);
+        return before.then(line::translate::mend(&mut to[HEAD_BYTES..n], pitches, table));
     }
-    Unprintables::NONE
+    before
 }
 
 // All segments of a record that passed, and 00 after them. Tells the unprintable positions of their texts.
@@ -133,8 +140,7 @@ pub fn store_legends(
     let mut at = 0;
     while at < n {
         let end = at + segment_length(sent, at);
-        let here = store_segment(&mut legends[at..end], &sent[at..end], pitches, table);
-        found = found.then(here);
+        found = store_segment(&mut legends[at..end], &sent[at..end], pitches, table, found);
         at = end;
     }
     seq::fill(&mut legends[n..Stores::LEGEND_BYTES], 0);

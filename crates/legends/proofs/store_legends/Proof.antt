@@ -11,7 +11,7 @@ use Rattle.seq.specs.Words.{zeros}
 use Rattle.numbers.specs.Sizes.{legendSize}
 use Rattle.line.specs.declared.Unprintables.{Unprintables}
 use Rattle.legends.proofs.SegmentLaws.{SoundFirst, six-at, end-at}
-use Rattle.legends.proofs.StoredLaws.{Storing, storing-start, storing-first, here-few, storing-more, storing-end}
+use Rattle.legends.proofs.StoredLaws.{Storing, storing-start, storing-first, storing-more, storing-end}
 use Rattle.legends.proofs.store_legends.Statement.{statement}
 use Rattle.legends.proofs.store_legends.Tie as tie
 
@@ -45,40 +45,31 @@ part-store-segment-end c = omega (arith, end c)
 part-store-segment-end-2 : tie.Need-part-store-segment-end-2 Inv-loop μ-loop
 part-store-segment-end-2 c = omega (arith, end (c .before))
 
+-- no more positions are told than bytes have been looked at
 store-segment-requires : tie.Need-store-segment-requires Inv-loop μ-loop
 store-segment-requires c κs =
     let b = c .before .before in
+    let i = b .before .before .loop .inv .1 in
     let m = b .segment-length .ensures in
-    simp (add-sub-cancel-left, length-take, length-drop) ((omega (arith, end b), omega (arith, end b, m .0)), (omega (arith, m .1), search needs))
-
--- no more positions are told than bytes have been looked at
-then-requires : tie.Need-then-requires Inv-loop μ-loop
-then-requires c κs =
-    let s = c .before .before in
-    let b = s .before .before .before in
-    let l = b .before .before .loop in
-    let start = b .before .before .before .before .before .before in
-    let m = b .segment-length in
-    let i = l .inv .1 in
-    let e = simp add-sub-cancel-left at (s .store-segment .ensures) in
-    let few = here-few _ _ _ (l .legends) (l .found) (l .at) (search needs) i (room start) (m .result) (m .ensures .0) in
-    omega (arith, ap (λ (u : Unprintables). u .count) (i .tells), i .few, ap (λ (u : Unprintables). u .count) (e .1), few, end b, room start)
+    let few = ap (λ (u : Unprintables). u .count) (i .tells) in
+    simp (add-sub-cancel-left, length-take, length-drop)
+    ((omega (arith, end b), omega (arith, end b, m .0)), (search needs, omega (arith, few, i .few, end b, room (b .before .before .before .before .before .before))))
 
 loop-less : tie.Need-loop-less Inv-loop μ-loop
 loop-less c =
-    let b = c .before .before .before .before .before .before in
+    let b = c .before .before .before .before .before in
     omega (arith, end b, b .segment-length .ensures .0)
 
 loop-again : tie.Need-loop-again Inv-loop μ-loop
 loop-again c =
-    let s = c .before .before .before in
-    let b = s .before .before .before in
+    let b = c .before .before .before .before .before in
     let l = b .before .before .loop in
     let start = b .before .before .before .before .before .before in
     let m = b .segment-length in
-    let e = simp add-sub-cancel-left at (s .store-segment .ensures) in
-    let more = storing-more _ _ _ (l .legends) (l .found) (l .at) (search needs) (l .inv .1) (room start) (m .result) (m .ensures .0) in
-    (refl, simp add-sub-cancel-left (more _ _ (e .0) (c .then .ensures (l .inv .1 .places) _ (l .inv .1 .tells) (e .1))))
+    let i = l .inv .1 in
+    let e = simp add-sub-cancel-left at (c .before .before .store-segment .ensures) in
+    let more = storing-more _ _ _ (l .legends) (l .found) (l .at) (search needs) i (room start) (m .result) (m .ensures .0) in
+    (refl, simp add-sub-cancel-left (more _ _ (e .0) (e .1 (i .places) (i .tells))))
 
 returns : tie.Need-returns Inv-loop μ-loop
 returns c =
@@ -109,7 +100,6 @@ store-legends-spec =
     (λ c. search needs)
     part-store-segment-end-2
     store-segment-requires
-    then-requires
     loop-less
     loop-again
     (λ c. search needs)
