@@ -76,8 +76,8 @@ returns c =
     let z = m .mend .last .0 in
     let e = coded d in (
       ap (λ (l : List ℕ). take headSize l ++ (z ++ drop n (drop headSize l))) (e .all)
-      ∙ put-text (k .copy-all .last .0) (d .codes .last .0) z n (e .head) (long (a .pitches) e)
-      ∙ (λ j. k .copy-all .ensures j ++ translates m .cells j),
+          ∙ put-text (k .copy-all .last .0) (d .codes .last .0) z n (e .head) (long (a .pitches) e)
+          ∙ (λ j. k .copy-all .ensures j ++ translates m .cells j),
       λ ns h. c .then .ensures ns _ h (translates m .found),
     )
 
