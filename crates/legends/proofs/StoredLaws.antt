@@ -4,20 +4,22 @@ use mathlib.Core.Path.{_≡_, refl, sym, ap, _∙_}
 use mathlib.Core.Bool.{Bool, true, false, _&&_, false≢true, and-true}
 use mathlib.Core.List.{List, [], _∷_, _++_, map, append-assoc, append-nil, flatten}
 use native.Mathlib.Omega.{arith}
-use lib.ListN.{length, getD, take, drop, length-append, length-take, length-drop, drop-of-length-le}
+use lib.ListN.{length, getD, take, drop, length-append, length-map, length-take, length-drop, drop-of-length-le}
 use lib.Seq.{take-take, take-add, take-at, drop-at, drop-drop, getD-take, length-take-le}
 use lib.Dec.{eqb, lit<}
 use borrow.Author.Tests.{eqb-true, ne-eqb}
-use Rattle.seq.specs.Words.{all, firstOr, every, zeros, padded, zeroFrom}
+use Rattle.seq.specs.Words.{any, all, firstOr, every, zeros, padded, zeroFrom}
 use Rattle.seq.proofs.Laws.{and-left, passed}
 use Rattle.numbers.specs.declared.Checked.the-variants.{Sound}
 use Rattle.numbers.specs.Sizes.{legendSize}
 use Rattle.numbers.specs.Numbers.{isSound}
 use Rattle.numbers.proofs.Laws.{faulty}
 use Rattle.line.specs.declared.Unprintables.{Unprintables}
-use Rattle.line.specs.Line.{translated, unprintableAt, told}
+use Rattle.line.specs.Line.{unprintable, translated, unprintableAt, told}
+use Rattle.line.specs.Codes.{codes, mendedCodes, unprintableCodes}
+use Rattle.line.proofs.CellLaws.{unprintable-codes, replaced-codes, printable-none, printable-codes}
 use Rattle.line.proofs.LineLaws.{length-translated}
-use Rattle.line.proofs.UnprintableLaws.{unprintable-few}
+use Rattle.line.proofs.UnprintableLaws.{told-before, unprintable-few}
 use Rattle.legends.proofs.SegmentLaws.{found, judged, rest, SoundFirst, sound-first, byte-set, end-at, rest-at, tests-front, cut-take, cut-end}
 use Rattle.legends.proofs.SegmentLaws.{segments-next, stored-next, judged-sound, judged-faulty, empty-or-sound}
 use Rattle.legends.proofs.LegendLaws.{retext-length}
@@ -206,9 +208,61 @@ module _ (ps t sent : List ℕ) where
                 ∙ so-far .texts;
           }
 
-      pub storing-more : (ys : List ℕ) (b : Unprintables) → ys ≡ cells-of → b ≡ told (so-far .places ++ here)
+      storing-more : (ys : List ℕ) (b : Unprintables) → ys ≡ cells-of → b ≡ told (so-far .places ++ here)
           → Storing (take at out ++ (ys ++ drop m (drop at out))) b (at + m)
       storing-more ys b y u = rw y (step b u)
+
+      -- the segment looked up, with nothing to mend in it
+      pub storing-good : (ys : List ℕ) (b : Bool) → ys ≡ retext (codes t) first → b ≡ any (unprintable ps) (codes t (drop headSize first)) → b ≡ false
+          → Storing (take at out ++ (ys ++ drop m (drop at out))) bad (at + m)
+      storing-good ys b y u n =
+          let none = sym u ∙ n in
+          storing-more ys bad (y ∙ ap (λ (r : List ℕ). take headSize first ++ r) (printable-codes ps t (drop headSize first) none))
+          (so-far .tells ∙ told-before (so-far .places) here (ap length (printable-none ps t (drop headSize first) none)))
+
+      -- and looked up, then mended
+      module _ (ys : List ℕ) (y : ys ≡ retext (codes t) first) where
+        abbrev coded : List ℕ
+        coded = take at out ++ (ys ++ drop m (drop at out))
+
+        six : headSize ≤ length first
+        six = omega (arith, e, first-length)
+
+        coded-length : length ys ≡ m
+        coded-length = ap length y ∙ retext-length (codes t) (λ r. length-map r _) first six ∙ first-length
+
+        coded-back : take m (drop at coded) ≡ ys
+        coded-back =
+            let room-at = length-take-le at out (omega (arith, so-far .within, so-far .size, room)) in
+            ap (take m) (drop-at (take at out) (ys ++ drop m (drop at out)) at room-at) ∙ take-at ys (drop m (drop at out)) m coded-length
+
+        pub coded-long : length (take m (drop at coded)) ≡ m
+        coded-long = ap length coded-back ∙ coded-length
+
+        pub coded-size : length coded ≡ legendSize
+        coded-size =
+            rw (length-append, length-append)
+            (omega (arith, coded-length, length-take at out, length-drop m (drop at out), length-drop at out, so-far .size, end-at sent at m e storing-first, room))
+
+        pub storing-bad : (zs : List ℕ) (b : Unprintables) → zs ≡ retext (mendedCodes ps t) (take m (drop at coded))
+            → b ≡ told (so-far .places ++ unprintableCodes ps (drop headSize (take m (drop at coded))))
+            → Storing (take at coded ++ (zs ++ drop m (drop at coded))) b (at + m)
+        storing-bad zs b z u =
+            let room-at = length-take-le at out (omega (arith, so-far .within, so-far .size, room)) in
+            let x = take headSize first in
+            let q = codes t (drop headSize first) in
+            let six-x = length-take-le headSize first six in
+            let whole = coded-back ∙ y in
+            let text = ap (drop headSize) whole ∙ drop-at x q headSize six-x in
+            let cells = z ∙ ap (retext (mendedCodes ps t)) whole
+            ∙ (λ j. take-at x q headSize six-x j ++ mendedCodes ps t (drop-at x q headSize six-x j))
+            ∙ ap (λ (r : List ℕ). x ++ r) (replaced-codes ps t (drop headSize first)) in
+            let found = u ∙ ap (λ (l : List ℕ). told (so-far .places ++ unprintableCodes ps l)) text
+            ∙ ap (λ (l : List ℕ). told (so-far .places ++ l)) (unprintable-codes ps t (drop headSize first)) in
+            let front = take-at (take at out) (ys ++ drop m (drop at out)) at room-at in
+            let back =
+            ap (drop m) (drop-at (take at out) (ys ++ drop m (drop at out)) at room-at) ∙ drop-at ys (drop m (drop at out)) m coded-length in
+            rw (front, back) (storing-more zs b cells found)
 
   pub storing-end : (out : List ℕ) (bad : Unprintables) (at : ℕ) → length sent ≤ legendSize → length sent ≤ at → Storing out bad at
       → (take (length sent) out ++ zeros (legendSize - length sent) ≡ storedLegends (translated ps t) sent) × (bad ≡ told (inTexts sent))

@@ -10,11 +10,12 @@ ghost use mathlib.Core.Bool.{false};
 ghost use mathlib.Core.List.{List, _++_, map, flatten};
 ghost use Prim.Native.Nat.{ℕ, _+_, _≤_};
 ghost use lib.ListN.{length, drop};
-ghost use Rattle.seq.specs.Words.{firstOr};
 ghost use Rattle.numbers.specs.Sizes.{legendSize, slotSize};
 ghost use Rattle.numbers.specs.Numbers.{isSound};
 ghost use Rattle.numbers.specs.declared.Checked.the-variants.{Sound};
-ghost use Rattle.line.specs.Line.{translated, unprintableAt, told};
+ghost use Rattle.seq.specs.Words.{any, firstOr};
+ghost use Rattle.line.specs.Line.{unprintable, translated, unprintableAt, told};
+ghost use Rattle.line.specs.Codes.{codes, mendedCodes, unprintableCodes};
 ghost use Rattle.legends.specs.Legends.{headSize, segmentLength, badHead, segmentTests, segments, legendCheck, legendsOk};
 ghost use Rattle.legends.specs.Legends.{retext, storedLegends, unprintableInTexts};
 
@@ -98,27 +99,33 @@ pub fn legends_ok(legends: &[u8]) -> bool
     seq::zero_from(legends, at)
 }
 
-// One segment of a load: its head, and its text through the table. Tells the unprintable positions of the text after those that were found before it.
-fn store_segment(
-    to: &mut [u8],
-    from: &[u8],
+// One segment of a load: its head, and the codes of its text. Says whether any of them is unprintable.
+fn store_segment(to: &mut [u8], from: &[u8], pitches: [u8; 4], table: &[u8]) -> bool
+    requires { ⌜ (length (now to) ≡ length (now from)) × (headSize ≤ length (now from)) ⌝ }
+    requires { ⌜ length (now table) ≡ slotSize ⌝ }
+    ensures to { λ _. ⌜ now (to .exit) ≡ retext (codes (now (table .entry))) (now (from .entry)) ⌝ }
+    ensures bad { λ r. ⌜ r ≡ any (unprintable pitches) (codes (now (table .entry)) (drop headSize (now (from .entry)))) ⌝ }
+{
+    let n = from.len();
+    seq::copy_all(&mut to[0..HEAD_BYTES], &from[0..HEAD_BYTES]);
+    line::translate::codes(&mut to[HEAD_BYTES..n], &from[HEAD_BYTES..n], pitches, table)
+}
+
+// The text of a segment mended. Tells its unprintable positions after those that were found before it.
+fn mend_segment(
+    segment: &mut [u8],
     pitches: [u8; 4],
     table: &[u8],
     before: Unprintables,
 ) -> Unprintables
-    requires { ⌜ (length (now to) ≡ length (now from)) × (headSize ≤ length (now from)) ⌝ }
+    requires { ⌜ headSize ≤ length (now segment) ⌝ }
     requires { ⌜ length (now table) ≡ slotSize ⌝ }
-    requires { ⌜ before .count + length (now from) ≤ 0xFFFF ⌝ }
-    ensures to { λ _. ⌜ now (to .exit) ≡ retext (translated pitches (now (table .entry))) (now (from .entry)) ⌝ }
-    ensures found { λ r. ⌜ ((ns : List ℕ) → before ≡ told ns
-        → r ≡ told (ns ++ unprintableAt pitches (now (table .entry)) (drop headSize (now (from .entry))))) ⌝ }
+    requires { ⌜ before .count + length (now segment) ≤ 0xFFFF ⌝ }
+    ensures segment { λ _. ⌜ now (segment .exit) ≡ retext (mendedCodes pitches (now (table .entry))) (now (segment .entry)) ⌝ }
+    ensures found { λ r. ⌜ ((ns : List ℕ) → before ≡ told ns → r ≡ told (ns ++ unprintableCodes pitches (drop headSize (now (segment .entry))))) ⌝ }
 {
-    let n = from.len();
-    seq::copy_all(&mut to[0..HEAD_BYTES], &from[0..HEAD_BYTES]);
-    if line::translate::codes(&mut to[HEAD_BYTES..n], &from[HEAD_BYTES..n], pitches, table) {
-        return before.then(line::translate::mend(&mut to[HEAD_BYTES..n], pitches, table));
-    }
-    before
+    let n = segment.len();
+    before.then(line::translate::mend(&mut segment[HEAD_BYTES..n], pitches, table))
 }
 
 // All segments of a record that passed, and 00 after them. Tells the unprintable positions of their texts.
@@ -140,7 +147,9 @@ pub fn store_legends(
     let mut at = 0;
     while at < n {
         let end = at + segment_length(sent, at);
-        found = store_segment(&mut legends[at..end], &sent[at..end], pitches, table, found);
+        if store_segment(&mut legends[at..end], &sent[at..end], pitches, table) {
+            found = mend_segment(&mut legends[at..end], pitches, table, found);
+        }
         at = end;
     }
     seq::fill(&mut legends[n..Stores::LEGEND_BYTES], 0);

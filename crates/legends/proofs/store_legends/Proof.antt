@@ -11,7 +11,7 @@ use Rattle.seq.specs.Words.{zeros}
 use Rattle.numbers.specs.Sizes.{legendSize}
 use Rattle.line.specs.declared.Unprintables.{Unprintables}
 use Rattle.legends.proofs.SegmentLaws.{SoundFirst, six-at, end-at}
-use Rattle.legends.proofs.StoredLaws.{Storing, storing-start, storing-first, storing-more, storing-end}
+use Rattle.legends.proofs.StoredLaws.{Storing, storing-start, storing-first, storing-good, coded-long, coded-size, storing-bad, storing-end}
 use Rattle.legends.proofs.store_legends.Statement.{statement}
 use Rattle.legends.proofs.store_legends.Tie as tie
 
@@ -45,31 +45,71 @@ part-store-segment-end c = omega (arith, end c)
 part-store-segment-end-2 : tie.Need-part-store-segment-end-2 Inv-loop μ-loop
 part-store-segment-end-2 c = omega (arith, end (c .before))
 
--- no more positions are told than bytes have been looked at
 store-segment-requires : tie.Need-store-segment-requires Inv-loop μ-loop
 store-segment-requires c κs =
     let b = c .before .before in
-    let i = b .before .before .loop .inv .1 in
-    let m = b .segment-length .ensures in
-    let few = ap (λ (u : Unprintables). u .count) (i .tells) in
-    simp (add-sub-cancel-left, length-take, length-drop)
-    ((omega (arith, end b), omega (arith, end b, m .0)), (search needs, omega (arith, few, i .few, end b, room (b .before .before .before .before .before .before))))
+    simp (add-sub-cancel-left, length-take, length-drop) ((omega (arith, end b), omega (arith, end b, b .segment-length .ensures .0)), search needs)
 
-loop-less : tie.Need-loop-less Inv-loop μ-loop
-loop-less c =
-    let b = c .before .before .before .before .before in
-    omega (arith, end b, b .segment-length .ensures .0)
+-- the segment that was stored still stands there
+part-mend-segment-end : tie.Need-part-mend-segment-end Inv-loop μ-loop
+part-mend-segment-end c =
+    let s = c .before .before .before in
+    let b = s .before .before .before in
+    let l = b .before .before .loop in
+    let m = b .segment-length in
+    let e = simp add-sub-cancel-left at (s .store-segment .ensures) in
+    let start = b .before .before .before .before .before .before in
+    let size = coded-size _ _ _ (l .legends) (l .found) (l .at) (search needs) (l .inv .1) (room start) (m .result) (m .ensures .0) _ (e .0) in
+    simp add-sub-cancel-left (omega (arith, end b, size, room start))
 
-loop-again : tie.Need-loop-again Inv-loop μ-loop
-loop-again c =
-    let b = c .before .before .before .before .before in
+-- no more positions are told than bytes have been looked at
+mend-segment-requires : tie.Need-mend-segment-requires Inv-loop μ-loop
+mend-segment-requires c κs =
+    let s = c .before .before .before .before in
+    let b = s .before .before .before in
     let l = b .before .before .loop in
     let start = b .before .before .before .before .before .before in
     let m = b .segment-length in
     let i = l .inv .1 in
-    let e = simp add-sub-cancel-left at (c .before .before .store-segment .ensures) in
-    let more = storing-more _ _ _ (l .legends) (l .found) (l .at) (search needs) i (room start) (m .result) (m .ensures .0) in
-    (refl, simp add-sub-cancel-left (more _ _ (e .0) (e .1 (i .places) (i .tells))))
+    let e = simp add-sub-cancel-left at (s .store-segment .ensures) in
+    let long = coded-long _ _ _ (l .legends) (l .found) (l .at) (search needs) i (room start) (m .result) (m .ensures .0) _ (e .0) in
+    let few = ap (λ (u : Unprintables). u .count) (i .tells) in
+    simp add-sub-cancel-left (omega (arith, long, m .ensures .0), (search needs, omega (arith, long, few, i .few, end b, room start)))
+
+loop-less : tie.Need-loop-less Inv-loop μ-loop
+loop-less c =
+    let b = c .before .before .before .before .before .before .before .before .before .before in
+    omega (arith, end b, b .segment-length .ensures .0)
+
+loop-again : tie.Need-loop-again Inv-loop μ-loop
+loop-again c =
+    let s = c .before .before .before .before .before .before .before in
+    let b = s .before .before .before in
+    let l = b .before .before .loop in
+    let start = b .before .before .before .before .before .before in
+    let m = b .segment-length in
+    let i = l .inv .1 in
+    let e = simp add-sub-cancel-left at (s .store-segment .ensures) in
+    let d = simp add-sub-cancel-left at (c .before .before .mend-segment .ensures) in
+    let more = storing-bad _ _ _ (l .legends) (l .found) (l .at) (search needs) i (room start) (m .result) (m .ensures .0) in
+    (refl, simp add-sub-cancel-left (more _ (e .0) _ _ (d .0) (d .1 (i .places) (i .tells))))
+
+loop-less-2 : tie.Need-loop-less-2 Inv-loop μ-loop
+loop-less-2 c =
+    let b = c .before .before .before .before .before .before in
+    omega (arith, end b, b .segment-length .ensures .0)
+
+loop-again-2 : tie.Need-loop-again-2 Inv-loop μ-loop
+loop-again-2 c =
+    let s = c .before .before .before in
+    let b = s .before .before .before in
+    let l = b .before .before .loop in
+    let start = b .before .before .before .before .before .before in
+    let m = b .segment-length in
+    let i = l .inv .1 in
+    let e = simp add-sub-cancel-left at (s .store-segment .ensures) in
+    let more = storing-good _ _ _ (l .legends) (l .found) (l .at) (search needs) i (room start) (m .result) (m .ensures .0) in
+    (refl, simp add-sub-cancel-left (more _ _ (e .0) (e .1) (c .if1 .left)))
 
 returns : tie.Need-returns Inv-loop μ-loop
 returns c =
@@ -100,8 +140,14 @@ store-legends-spec =
     (λ c. search needs)
     part-store-segment-end-2
     store-segment-requires
+    (λ c. search needs)
+    (λ c. search needs)
+    part-mend-segment-end
+    mend-segment-requires
     loop-less
     loop-again
+    loop-less-2
+    loop-again-2
     (λ c. search needs)
     (λ c. search needs)
     (λ c. search needs)
