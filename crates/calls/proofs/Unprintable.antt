@@ -17,7 +17,7 @@ use Rattle.numbers.specs.declared.Checked.the-variants.{Sound}
 use Rattle.numbers.specs.Numbers.{isAccepted, senseAfter}
 use Rattle.line.specs.declared.Unprintables.{Unprintables}
 use Rattle.line.specs.Line.{serving, unprintableAt, told, noCauses, textCauses, lineCauses, orUnmatched}
-use Rattle.line.proofs.UnprintableLaws.{Tells, told-tells, unprintable-positions, unprintable-few, check-80}
+use Rattle.line.proofs.UnprintableLaws.{Tells, told-tells, none-tells, unprintable-positions, unprintable-few, check-80}
 use Rattle.legends.specs.Legends.{unprintableInTexts}
 use Rattle.legends.proofs.TextLaws.{texts-positions, texts-few}
 use Rattle.calls.specs.declared.Load.{Load}
@@ -30,7 +30,7 @@ use Rattle.calls.specs.Effects.{Effect, refused, done, written, writeCau
 use Rattle.calls.specs.Calls.{Call, command, compose, release, checkOf, refusalOf, doCompose, doRelease, perform, effect, step}
 use Rattle.calls.specs.Premises.{Allowed}
 use Rattle.calls.proofs.Accepted.{allowed}
-use Rattle.calls.proofs.Refused.{accepted-effect, by-outcome}
+use Rattle.calls.proofs.Refused.{by-outcome}
 use Rattle.calls.proofs.Answers.{causesOf, Shape, sets, quiet, performed, acted}
 
 -- The unprintable positions of what a command translates, through the table that serves: a write's record, a legend load's texts; others have none.
@@ -131,13 +131,13 @@ tells-none k c e =
 -- Both are 0 or neither is; the first is a position of a line.
 load-tells : (k : Core) (l : Load) (r : List ℕ) → length r ≤ legendSize → loadCheck (k .state) l r ≡ Sound → Tells (told (inLoad k l r))
 unfolding loadCheck
-load-tells k Fcb r h e = told-tells [] refl (omega arith)
-load-tells k TranslateTable r h e = told-tells [] refl (omega arith)
+load-tells k Fcb r h e = none-tells
+load-tells k TranslateTable r h e = none-tells
 load-tells k CopyModification r h e =
     let t = serving (k .state .slots) (k .stores .tables) in
     told-tells (unprintableInTexts (through k) r) (texts-positions _ t r e) (omega (arith, h, texts-few (k .state .fixed .pitches) t r))
-load-tells k OverlaySequence r h e = told-tells [] refl (omega arith)
-load-tells k CopyNumber r h e = told-tells [] refl (omega arith)
+load-tells k OverlaySequence r h e = none-tells
+load-tells k CopyNumber r h e = none-tells
 
 command-tells : (k : Core) (c : Command) (i : Issued) → Allowed k c i → Tells (told (unprintableIn k c (i .sent)))
 unfolding checkOf
@@ -145,10 +145,10 @@ command-tells k (Write m) i a =
     let h = ltb-false lineWidth (length (i .sent)) (or-right (empty (i .sent)) _ (a .sized)) in
     let t = serving (k .state .slots) (k .stores .tables) in
     told-tells (through k (i .sent)) (unprintable-positions _ t (i .sent) h) (omega (arith, h, unprintable-few (k .state .fixed .pitches) t (i .sent)))
-command-tells k (Move m) i a = told-tells [] refl (omega arith)
-command-tells k (Controls c) i a = told-tells [] refl (omega arith)
+command-tells k (Move m) i a = none-tells
+command-tells k (Controls c) i a = none-tells
 command-tells k (Loads l) i a = load-tells k l (i .sent) (ltb-false legendSize (length (i .sent)) (a .sized)) (a .sound)
-command-tells k Unlisted i a = told-tells [] refl (omega arith)
+command-tells k Unlisted i a = none-tells
 
 pub causes-tell : (k : Core) (c : Command) (i : Issued) → Allowed k c i → Tells (causesOf k c i .unprintables)
 causes-tell k c i a = rw (causes-told k c i) (command-tells k c i a)
@@ -156,12 +156,12 @@ causes-tell k c i a = rw (causes-told k c i) (command-tells k c i a)
 perform-tells : (k : Core) (c : Call) → isAccepted (refusalOf k c) ≡ true → Tells (toldIn (perform k c .answer))
 unfolding perform doCompose doRelease
 perform-tells k (command i) e = rw (told-shape (performed k i e)) (command-tells k (decode (i .byte)) i (allowed k i e))
-perform-tells k (compose n out) e = told-tells [] refl (omega arith)
-perform-tells k release e = told-tells [] refl (omega arith)
+perform-tells k (compose n out) e = none-tells
+perform-tells k release e = none-tells
 
 pub tells : (k : Core) (c : Call) → Tells (toldIn (effect k c .answer))
 unfolding refused
-tells k c = by-outcome (λ (x : Effect). Tells (toldIn (x .answer))) k c (perform-tells k c) (λ e. told-tells [] refl (omega arith))
+tells k c = by-outcome (λ (x : Effect). Tells (toldIn (x .answer))) k c (perform-tells k c) (λ e. none-tells)
 
 -- Where a position is told and Block is off, sense byte 1 has 80.
 check-translated : (k : Core) (c : Command) (i : Issued) (s : Sense) → translates c ≡ true → eqb (doCommand k c i .answer .count) 0 ≡ false

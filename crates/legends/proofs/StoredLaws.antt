@@ -225,6 +225,9 @@ module _ (ps t sent : List ℕ) where
         abbrev coded : List ℕ
         coded = take at out ++ (ys ++ drop m (drop at out))
 
+        at-long : length (take at out) ≡ at
+        at-long = length-take-le at out (omega (arith, so-far .within, so-far .size, room))
+
         six : headSize ≤ length first
         six = omega (arith, e, first-length)
 
@@ -233,8 +236,7 @@ module _ (ps t sent : List ℕ) where
 
         coded-back : take m (drop at coded) ≡ ys
         coded-back =
-            let room-at = length-take-le at out (omega (arith, so-far .within, so-far .size, room)) in
-            ap (take m) (drop-at (take at out) (ys ++ drop m (drop at out)) at room-at) ∙ take-at ys (drop m (drop at out)) m coded-length
+            ap (take m) (drop-at (take at out) (ys ++ drop m (drop at out)) at at-long) ∙ take-at ys (drop m (drop at out)) m coded-length
 
         pub coded-long : length (take m (drop at coded)) ≡ m
         coded-long = ap length coded-back ∙ coded-length
@@ -248,7 +250,6 @@ module _ (ps t sent : List ℕ) where
             → b ≡ told (so-far .places ++ unprintableCodes ps (drop headSize (take m (drop at coded))))
             → Storing (take at coded ++ (zs ++ drop m (drop at coded))) b (at + m)
         storing-bad zs b z u =
-            let room-at = length-take-le at out (omega (arith, so-far .within, so-far .size, room)) in
             let x = take headSize first in
             let q = codes t (drop headSize first) in
             let six-x = length-take-le headSize first six in
@@ -259,9 +260,9 @@ module _ (ps t sent : List ℕ) where
             ∙ ap (λ (r : List ℕ). x ++ r) (replaced-codes ps t (drop headSize first)) in
             let found = u ∙ ap (λ (l : List ℕ). told (so-far .places ++ unprintableCodes ps l)) text
             ∙ ap (λ (l : List ℕ). told (so-far .places ++ l)) (unprintable-codes ps t (drop headSize first)) in
-            let front = take-at (take at out) (ys ++ drop m (drop at out)) at room-at in
+            let front = take-at (take at out) (ys ++ drop m (drop at out)) at at-long in
             let back =
-            ap (drop m) (drop-at (take at out) (ys ++ drop m (drop at out)) at room-at) ∙ drop-at ys (drop m (drop at out)) m coded-length in
+            ap (drop m) (drop-at (take at out) (ys ++ drop m (drop at out)) at at-long) ∙ drop-at ys (drop m (drop at out)) m coded-length in
             rw (front, back) (storing-more zs b cells found)
 
   pub storing-end : (out : List ℕ) (bad : Unprintables) (at : ℕ) → length sent ≤ legendSize → length sent ≤ at → Storing out bad at

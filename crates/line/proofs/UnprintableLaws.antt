@@ -47,6 +47,9 @@ told-tells (n ∷ ns) e h =
       count = h;
     }
 
+pub none-tells : Tells (told [])
+none-tells = told-tells [] refl (omega arith)
+
 -- a record's are such, and no more than it has bytes
 pub unprintable-positions : (ps t r : List ℕ) → length r ≤ lineWidth → positions (unprintableAt ps t r) ≡ true
 unfolding unprintableAt

@@ -1,27 +1,26 @@
 -- T-01 as a C host sees it: what every answer's 64 bits tell of unprintable positions, whatever bytes were lent.
 use Prim.Native.Nat.{ℕ, _+_, _/_, _≤_}
 use mathlib.Core.Path.{_≡_, refl, sym, ap, _∙_}
-use mathlib.Core.Bool.{Bool, true, false, cond, _&&_, and-false, true≢false}
+use mathlib.Core.Bool.{Bool, true, false, cond, _&&_, true≢false}
 use mathlib.Core.List.{List, []}
 use lib.ListN.{length}
 use lib.Dec.{eqb}
-use native.Mathlib.Omega.{arith}
 use Rattle.seq.proofs.Laws.{cond-has}
 use Rattle.numbers.specs.declared.Answer.{Answer}
 use Rattle.numbers.specs.declared.Sense.{Sense}
-use Rattle.numbers.specs.declared.Refusal.the-variants.{Accepted, BadStore}
-use Rattle.numbers.specs.Numbers.{rowOf, isAccepted, only}
+use Rattle.numbers.specs.declared.Refusal.the-variants.{BadStore}
+use Rattle.numbers.specs.Numbers.{isAccepted, only}
 use Rattle.line.specs.declared.Unprintables.{Unprintables}
 use Rattle.line.specs.Line.{told}
-use Rattle.line.proofs.UnprintableLaws.{Tells, told-tells}
+use Rattle.line.proofs.UnprintableLaws.{Tells, none-tells}
 use Rattle.calls.specs.Core.{Stores}
-use Rattle.calls.specs.Calls.{Call, refusalOf, lent, Outcome, step}
+use Rattle.calls.specs.Calls.{Call, lent, Outcome, step}
 use Rattle.calls.specs.Start.{Asked, startRefusal, startOutcome}
 use Rattle.calls.proofs.Answers.{names}
 use Rattle.calls.proofs.Unprintable.{toldIn, isTranslating, tells, tells-none, tells-check}
 use Rattle.printer.specs.Layout.{blockedAt, referenceAt, sense0At, stateSize}
-use Rattle.state.specs.State.{byteAt, flagAt, senseAt, stateAt, coreAt, worldAt, readable}
-use Rattle.state.specs.Host.{Called, shown, unread, callBytes, startBytes}
+use Rattle.state.specs.State.{byteAt, senseAt, stateAt, coreAt, worldAt, readable}
+use Rattle.state.specs.Host.{shown, unread, callBytes, startBytes}
 use Rattle.state.proofs.Round.{sense-back}
 use Rattle.state.proofs.Fields.{number-back}
 use Rattle.trestlepip.specs.Host.{numberIn, toldBy}
@@ -37,7 +36,7 @@ module _ (s : List ℕ) (m : Stores) (byte : byteAt s referenceAt ≤ 255) where
   unfolding step
   tells-in c =
       rw (told-back (call-unpacks s m c byte))
-      (cond-has (λ (a : Answer). Tells (toldIn a)) (readable s) (λ e. tells (coreAt s m) c) (λ e. told-tells [] refl (omega arith)))
+      (cond-has (λ (a : Answer). Tells (toldIn a)) (readable s) (λ e. tells (coreAt s m) c) (λ e. none-tells))
 
   -- Both are 0 unless the call is a write or a legend load and is accepted.
   pub tells-none-in : (c : Call) → (isTranslating c && eqb (numberIn (callBytes s m c .answer)) 0) ≡ false → toldBy (callBytes s m c .answer) ≡ told []
