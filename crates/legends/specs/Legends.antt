@@ -1,4 +1,5 @@
--- Document 01, "Copies and legends": copy modification, stored legends, and the composed copy. Every definition here is of that section.
+-- Document 01, "Copies and legends": copy modification, stored legends, and the composed copy. Every definition here is of that section, except where it
+-- names T-01 of document 02.
 use Prim.Native.Nat.{ℕ, zero, suc, _+_, _*_, _-_, _/_, _%_}
 use mathlib.Core.Bool.{Bool, false, cond, not, _&&_, _||_}
 use mathlib.Core.Option.{Option}

@@ -40,9 +40,6 @@ impl Unprintables {
         requires { ⌜ self .count + next .count ≤ 0xFFFF ⌝ }
         ensures { λ r. ⌜ ((ns ms : List ℕ) → self ≡ told ns → next ≡ told ms → r ≡ told (ns ++ ms)) ⌝ }
     {
-        if next.count == 0 {
-            return self;
-        }
         if self.count == 0 {
             return next;
         }
