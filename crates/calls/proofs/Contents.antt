@@ -16,11 +16,11 @@ use Rattle.calls.specs.Core.{Stores, Core, sizesOk, withState, withPage,
 use Rattle.calls.specs.Commands.{codes, lookUp, decode, isUnlisted}
 use Rattle.calls.specs.Contents.{lineOk, rangesOk, dueOk, writtenOk, clauses, coreOk}
 use Rattle.calls.specs.Reset.{blankSheet, noCells, resetState, resetStores, fresh}
-use Rattle.calls.specs.Start.{asked, startRefusal}
+use Rattle.calls.specs.Start.{asked, startKept, startRefusal}
 
 -- A printer just started, and the same with one part replaced.
 abbrev with-form : ℕ → List ℕ → Core
-with-form len ps = fresh (record { length = len; pitches = ps }) false
+with-form len ps = fresh (record { length = len; pitches = ps }) startKept
 
 abbrev k84 : Core
 k84 = with-form 84 (10 ∷ 0 ∷ 12 ∷ 15 ∷ [])

@@ -13,7 +13,7 @@ use Rattle.calls.specs.Commands.{issued, codes, lookUp, decode}
 use Rattle.calls.specs.Reset.{fresh, senseBytes}
 use Rattle.calls.specs.Effects.{Effect, refused, doControl, doCommand}
 use Rattle.calls.specs.Calls.{Call, compose, doCompose, perform, effect, over, step, command, lent}
-use Rattle.calls.specs.Start.{Asked, fixedBy, startRefusal, startWorld, startOutcome}
+use Rattle.calls.specs.Start.{Asked, fixedBy, startRefusal, startKept, startWorld, startOutcome}
 use Rattle.calls.specs.Lists.{worldAfter, gives, sinceReset}
 use Rattle.calls.proofs.Accepted.{started-world}
 use Rattle.calls.proofs.Refused.{by-outcome}
@@ -49,11 +49,11 @@ pub record Alike (v w : World) (xs ys : List Call) : Type 0 where
   pub composes : (zs : List Call) (n : ℕ) (out : List ℕ)
       → step (worldAfter (worldAfter v xs) zs) (compose n out) .buffer ≡ step (worldAfter (worldAfter w ys) zs) (compose n out) .buffer
 
-alike : (f : Fixed) (v w : World) (xs ys : List Call) → v .core ≡ fresh f false → w .core ≡ fresh f false
-    → sinceReset v xs .switch ≡ sinceReset w ys .switch → sinceReset v xs .deeds ≡ sinceReset w ys .deeds → Alike v w xs ys
+alike : (f : Fixed) (v w : World) (xs ys : List Call) → v .core ≡ fresh f startKept → w .core ≡ fresh f startKept
+    → sinceReset v xs .kept ≡ sinceReset w ys .kept → sinceReset v xs .deeds ≡ sinceReset w ys .deeds → Alike v w xs ys
 alike f v w xs ys ev ew p q =
-    let tv = tracked f false v xs ev in
-    let tw = tracked f false w ys ew in
+    let tv = tracked f startKept v xs ev in
+    let tw = tracked f startKept w ys ew in
     let e : worldAfter v xs .core ≡ worldAfter w ys .core = rw (tv .core, tw .core, p, q) in
     record {
       gave = rw (tv .gave, tw .gave, p, q);
@@ -67,7 +67,7 @@ pub demand-3 : (a : Asked) (m m′ : Stores) (xs ys : List Call)
     → isAccepted (startRefusal a m) ≡ true
     → isAccepted (startRefusal a m′) ≡ true
     → (let v = startOutcome a m .world in let w = startOutcome a m′ .world in
-    sinceReset v xs .switch ≡ sinceReset w ys .switch
+    sinceReset v xs .kept ≡ sinceReset w ys .kept
     → sinceReset v xs .deeds ≡ sinceReset w ys .deeds
     → Alike v w xs ys)
 unfolding startWorld

@@ -37,10 +37,10 @@ use Rattle.calls.specs.declared.Load.{Load}
 use Rattle.calls.specs.declared.Load.the-variants.{Fcb, TranslateTable, CopyModification, OverlaySequence, CopyNumber}
 use Rattle.calls.specs.Core.{Stores, Core, sizesOk, linesNow, P, laidOut, withState, withPage, withTables, withBlocked, withSlots, withCopies, withSheet}
 use Rattle.calls.specs.Contents.{lineOk, rangesOk, dueOk, writtenOk, coreOk}
-use Rattle.calls.specs.Reset.{blankSheet, noCells, resetState, resetStores, reset, fresh}
+use Rattle.calls.specs.Reset.{blankSheet, noCells, Kept, keptOf, resetState, resetStores, reset, fresh}
 use Rattle.calls.specs.Effects.{movedSheet, movedCore, moveOf, writtenSheet, written, loadCheck, atLine1, slotLoaded, slotSelected, loaded}
 use Rattle.calls.specs.Calls.{emptied}
-use Rattle.calls.specs.Start.{Asked, fixedBy, startRefusal, startWorld}
+use Rattle.calls.specs.Start.{Asked, fixedBy, startRefusal, startKept, startWorld}
 use Rattle.calls.specs.Premises.{Sizes, FormsGood, CopiesGood, SheetGood, FixedGood, Good, Free}
 use Rattle.calls.proofs.Accepted.{startable}
 
@@ -101,8 +101,8 @@ unfolding noCells
 no-cells = length-replicate {A = ℕ} pageSize 0
 
 -- A reset leaves such contents, and so do Start and a finished reset.
-module _ (f : Fixed) (blocked : Bool) (page : List ℕ) (e : FixedGood f) (size : length page ≡ pageSize) where
-  pub reset-good : Good (record { state = resetState f blocked; stores = resetStores page })
+module _ (f : Fixed) (kept : Kept) (page : List ℕ) (e : FixedGood f) (size : length page ≡ pageSize) where
+  pub reset-good : Good (record { state = resetState f kept; stores = resetStores page })
   unfolding resetState resetStores linesNow noLegends startSlots slotsInRange startCopies copiesInRange sequenceCheck pairsOf copiesOf every padded firstOr when
   reset-good =
       let l : listed formLengths (f .length) ≡ true = form-listed (f .length) (f .pitches) e in
@@ -118,7 +118,7 @@ module _ (f : Fixed) (blocked : Bool) (page : List ℕ) (e : FixedGood f) (size 
 
 pub start-good : (a : Asked) (m : Stores) → isAccepted (startRefusal a m) ≡ true → Good (startWorld a .core)
 unfolding startWorld fresh
-start-good a m e = reset-good (fixedBy a) false noCells (startable a m e .form) no-cells
+start-good a m e = reset-good (fixedBy a) startKept noCells (startable a m e .form) no-cells
 
 -- The printable lines of a form that is laid out are P.
 pub form-lines : (s : State) (w : Layout) → w ≡ laidOut s → w .lines ≡ P s
@@ -186,7 +186,7 @@ good-complete due g w = moved-good due toTop g w (lit≤ tt, omega (arith, g .sh
 
 pub good-reset : {k : Core} → Good k → Good (reset k)
 unfolding reset
-good-reset {k} g = reset-good (k .state .fixed) (k .state .blocked) (k .stores .page) (g .fixed) (g .sizes .page)
+good-reset {k} g = reset-good (k .state .fixed) (keptOf (k .state)) (k .stores .page) (g .fixed) (g .sizes .page)
 
 pub good-empty : {k : Core} → Good k → Good (emptied k)
 unfolding emptied

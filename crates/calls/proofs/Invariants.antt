@@ -25,7 +25,7 @@ use Rattle.calls.specs.declared.Sheet.{Sheet}
 use Rattle.calls.specs.declared.Load.{Load}
 use Rattle.calls.specs.declared.Load.the-variants.{Fcb, TranslateTable, CopyModification, OverlaySequence, CopyNumber}
 use Rattle.calls.specs.Core.{Core, World, started, Stores}
-use Rattle.calls.specs.Reset.{blankSheet, noCells, resetState, resetStores, reset}
+use Rattle.calls.specs.Reset.{blankSheet, noCells, Kept, keptOf, resetState, resetStores, reset}
 use Rattle.calls.specs.Effects.{movedSheet, writtenSheet, written, loadCheck, slotLoaded, slotSelected, loaded}
 use Rattle.calls.specs.Calls.{Call, emptied, effect, step}
 use Rattle.calls.specs.Start.{Asked, startRefusal, startWorld, startOutcome}
@@ -86,9 +86,9 @@ pub fixed-call : (f : Fixed) (k : Core) (c : Call) → Fixes f k → Fixes f (ef
 fixed-call f = preserved (fixes-survives f)
 
 -- The lengths of the arrays. A reset sets them anew; what a load takes fits its array.
-pub reset-sized : (f : Fixed) (blocked : Bool) → FixedGood f → length (f .pitches) ≡ 4 → Sized (resetState f blocked)
+pub reset-sized : (f : Fixed) (kept : Kept) → FixedGood f → length (f .pitches) ≡ 4 → Sized (resetState f kept)
 unfolding resetState formsOf startSlots startCopies
-reset-sized f blocked e h =
+reset-sized f kept e h =
     let l = form-listed (f .length) (f .pitches) e in
     record {
       pitches = h;
@@ -115,7 +115,7 @@ sized-survives =
       write = λ r g f h q. search;
       move = λ m g f h q. search;
       complete = λ due g f q. search;
-      reset = λ {k} g f u q. reset-sized (k .state .fixed) (k .state .blocked) (g .fixed) (q .pitches);
+      reset = λ {k} g f u q. reset-sized (k .state .fixed) (keptOf (k .state)) (g .fixed) (q .pitches);
       block = λ b g q. search;
       select = λ n g h q. search;
       load = λ l r g u e h q. load-sized l r g e q;

@@ -25,7 +25,7 @@ use Rattle.calls.specs.declared.State.{State}
 use Rattle.calls.specs.Core.{Stores, World, withBlocked, withForms, withSlots, withCopies, sizesOk, linesNow, started}
 use Rattle.calls.specs.Commands.{issued, codes, lookUp, decode, controlTraits, traitsOf}
 use Rattle.calls.specs.Contents.{lineOk, rangesOk, dueOk, writtenOk, coreOk}
-use Rattle.calls.specs.Reset.{blankSheet, noCells, resetState, resetStores, reset, fresh, byte3, senseBytes}
+use Rattle.calls.specs.Reset.{blankSheet, noCells, Kept, resetState, resetStores, reset, fresh, byte3, senseBytes}
 use Rattle.calls.specs.Effects.{refused, done, movedSheet, moveOf, doMove, writtenSheet, written, writeCauses, doWrite, loadCheck, atLine1, slotLoaded, slotSelected, loaded, loadCauses, doLoad, completing, doControl, doCommand}
 use Rattle.calls.specs.Calls.{Call, command, compose, release, checkOf, movement, refusalOf, copyAt, doCompose, emptied, released, doRelease, perform, effect, step}
 use Rattle.calls.specs.Start.{asked, startRefusal, startWorld, noState, noPrinter, startOutcome}
@@ -314,11 +314,11 @@ refused-start-table = refl
 -- Block on; since Start, with a Release that did no reset; since Initialize with Block on; since Start, with Initialize on a started page.
 pub record Counted : Type 0 where
   pub calls : List Call
-  pub switch : Bool
+  pub kept : Kept
   pub deeds : List Deed
 
 abbrev list : List Call → Bool → List Deed → Counted
-list calls switch deeds = record { calls = calls; switch = switch; deeds = deeds }
+list calls switch deeds = record { calls = calls; kept = record { blocked = switch }; deeds = deeds }
 
 unfoldable pub lists : List Counted
 lists =
@@ -332,7 +332,7 @@ lists =
     ∷ []
 
 abbrev counted : Counted → Counted
-counted l = let s = sinceReset (begun tens) (l .calls) in record { calls = l .calls; switch = s .switch; deeds = s .deeds }
+counted l = let s = sinceReset (begun tens) (l .calls) in record { calls = l .calls; kept = s .kept; deeds = s .deeds }
 
 -- Lists of calls go from the first call to the last.
 abbrev spaceThenClear : World

@@ -1,4 +1,4 @@
--- Demand 3, the ground: after a finished reset a printer is a function of what Start fixed and the switch, and each later one is what the deeds since
+-- Demand 3, the ground: after a finished reset a printer is a function of what Start fixed and what the reset kept, and each later one is what the deeds since
 -- then, done again on it, leave.
 use mathlib.Core.Path.{_≡_, refl, sym, ap, _∙_}
 use mathlib.Core.Bool.{Bool, true, false, not, true≢false, false≢true}
@@ -9,12 +9,13 @@ use Rattle.seq.proofs.Laws.{every-at}
 use Rattle.numbers.specs.declared.Refusal.the-variants.{Accepted}
 use Rattle.numbers.specs.Numbers.{rowOf, isAccepted}
 use Rattle.calls.specs.declared.Fixed.{Fixed}
+use Rattle.calls.specs.declared.State.{State}
 use Rattle.calls.specs.declared.Control.the-variants.{NoOp, SenseIo, Initialize, Clear, Block, Allow, Select}
 use Rattle.calls.specs.declared.Command.{Command}
 use Rattle.calls.specs.declared.Command.the-variants.{Write, Move, Controls, Loads, Unlisted}
 use Rattle.calls.specs.Core.{Core, World, started}
 use Rattle.calls.specs.Commands.{Issued, issued, decode, controlTraits, traitsOf}
-use Rattle.calls.specs.Reset.{blankSheet, noCells, resetState, resetStores, reset, fresh}
+use Rattle.calls.specs.Reset.{blankSheet, noCells, Kept, keptOf, resetState, resetStores, reset, fresh}
 use Rattle.calls.specs.Effects.{Effect, refused, done, completing, doControl, doCommand}
 use Rattle.calls.specs.Calls.{Call, command, compose, release, commandTests, checkOf, refusalOf, doCompose, emptied, released, doRelease, perform, effect, step}
 use Rattle.calls.specs.Premises.{Free}
@@ -86,7 +87,7 @@ again k (command i) e = again-command k i (not-true _ (every-at 1 _ e)) (every-a
 again k (compose n out) e = absurd (false≢true e)
 again k release e = refl
 
--- A finished reset leaves a printer that depends on form, pitches and switch alone.
+-- A finished reset leaves a printer that depends on what Start fixed and what the reset kept alone.
 is-initialize : (c : Command) → traitsOf c .resets ≡ true → c ≡ Controls Initialize
 unfolding traitsOf controlTraits
 is-initialize (Write m) e = absurd (false≢true e)
@@ -102,15 +103,15 @@ is-initialize (Loads l) e = absurd (false≢true e)
 is-initialize Unlisted e = absurd (false≢true e)
 
 initialized : (k : Core) (i : Issued) → started (k .state .sheet) ≡ false → k .stores .page ≡ noCells
-    → doCommand k (Controls Initialize) i .core ≡ fresh (k .state .fixed) (k .state .blocked)
+    → doCommand k (Controls Initialize) i .core ≡ fresh (k .state .fixed) (keptOf (k .state))
 unfolding doCommand doControl completing done reset fresh
 initialized k i e p = rw (e, p)
 
-released-due : (k : Core) → k .state .sheet .due ≡ true → released k ≡ fresh (k .state .fixed) (k .state .blocked)
+released-due : (k : Core) → k .state .sheet .due ≡ true → released k ≡ fresh (k .state .fixed) (keptOf (k .state))
 unfolding released emptied reset fresh
 released-due k e = rw e
 
-finished : (k : Core) (c : Call) → Blank k → finishesReset k c ≡ true → effect k c .core ≡ fresh (k .state .fixed) (k .state .blocked)
+finished : (k : Core) (c : Call) → Blank k → finishesReset k c ≡ true → effect k c .core ≡ fresh (k .state .fixed) (keptOf (k .state))
 unfolding finishesReset counts perform doRelease
 finished k (command i) h e =
     let a : isAccepted (refusalOf k (command i)) ≡ true = every-at 0 _ (every-at 0 _ e) in
@@ -148,10 +149,15 @@ redone-one k (x ∷ ds) d = ap (λ (l : List Given). given k (callOf x) ∷ l) (
 
 -- What a list of calls keeps: the core, and what the deeds gave, are those of the deeds since the latest finished reset, done again.
 pub record Tracks (f : Fixed) (k : Core) (s : Since) : Type 0 where
-  pub core : k ≡ redo (fresh f (s .switch)) (s .deeds)
-  pub gave : s .gave ≡ redone (fresh f (s .switch)) (s .deeds)
+  pub core : k ≡ redo (fresh f (s .kept)) (s .deeds)
+  pub gave : s .gave ≡ redone (fresh f (s .kept)) (s .deeds)
   pub fixed : Fixes f k
   pub blank : Blank k
+
+-- a printer that is as a reset leaves it has kept what the reset kept
+fresh-again : (f : Fixed) (s : State) {k : Core} → k ≡ fresh (s .fixed) (keptOf s) → s .fixed ≡ f → k ≡ fresh f (keptOf (k .state))
+unfolding fresh resetState
+fresh-again f s e h = rw (e, h)
 
 track-note : (f : Fixed) (k : Core) (s : Since) (c : Call) → Tracks f k s → Tracks f (effect k c .core) (note k s c)
 unfolding note sinceNow redo gives given
@@ -161,7 +167,7 @@ track-note f k s c t = go (finishesReset k c) refl (counts k c) refl
     go true ep q eq =
         rw ep
         (record {
-          core = finished k c (t .blank) ep ∙ ap (λ (g : Fixed). fresh g (k .state .blocked)) (t .fixed);
+          core = fresh-again f (k .state) (finished k c (t .blank) ep) (t .fixed);
           gave = refl;
           fixed = fixed-call f k c (t .fixed);
           blank = blank-call k c (t .blank);
@@ -182,12 +188,12 @@ track f w s [] t = t
 track f w s (c ∷ cs) t = track f (step w c .world) (note (w .core) s c) cs (track-note f (w .core) s c t)
 
 -- From a printer just started, or just reset.
-pub tracked : (f : Fixed) (blocked : Bool) (w : World) (cs : List Call) → w .core ≡ fresh f blocked → Tracks f (worldAfter w cs .core) (sinceReset w cs)
+pub tracked : (f : Fixed) (kept : Kept) (w : World) (cs : List Call) → w .core ≡ fresh f kept → Tracks f (worldAfter w cs .core) (sinceReset w cs)
 unfolding sinceReset sinceNow redo gives fresh resetState resetStores
-tracked f blocked w cs e =
-    track f w (sinceNow (w .core .state .blocked)) cs
+tracked f kept w cs e =
+    track f w (sinceNow (w .core .state)) cs
     (record {
-      core = e ∙ ap (λ (k : Core). fresh f (k .state .blocked)) (sym e);
+      core = e ∙ ap (λ (k : Core). fresh f (keptOf (k .state))) (sym e);
       gave = refl;
       fixed = ap (λ (k : Core). k .state .fixed) e;
       blank = λ _ _. ap (λ (k : Core). k .stores .page) e;

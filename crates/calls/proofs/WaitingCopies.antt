@@ -15,7 +15,7 @@ use Rattle.copies.specs.Copies.{copyCount}
 use Rattle.calls.specs.declared.Fixed.{Fixed}
 use Rattle.calls.specs.Core.{Core, World}
 use Rattle.calls.specs.Commands.{decode, traitsOf}
-use Rattle.calls.specs.Reset.{blankSheet, resetState, resetStores, fresh}
+use Rattle.calls.specs.Reset.{blankSheet, Kept, resetState, resetStores, fresh}
 use Rattle.calls.specs.Calls.{Call, command, compose, release, refusalOf, doCompose, doRelease, perform, effect, over, step, Copy, copyAt}
 use Rattle.calls.specs.Premises.{Free}
 use Rattle.calls.specs.Lists.{worldAfter, counts, finishesReset, copiesOfPage, Given, given, gives, Since, sinceNow, note, sinceOver, sinceReset}
@@ -86,10 +86,10 @@ unfolding worldAfter sinceOver step
 shown-over w s [] z h = h
 shown-over w s (c ∷ cs) z h = shown-over (step w c .world) (note (w .core) s c) cs (blank-call (w .core) c z) (shown-note (w .core) s c z h)
 
-pub waiting-copies : (f : Fixed) (blocked : Bool) (w : World) (cs : List Call) → w .core ≡ fresh f blocked → Shown (worldAfter w cs .core) (sinceReset w cs)
+pub waiting-copies : (f : Fixed) (kept : Kept) (w : World) (cs : List Call) → w .core ≡ fresh f kept → Shown (worldAfter w cs .core) (sinceReset w cs)
 unfolding sinceReset fresh resetState resetStores blankSheet
-waiting-copies f blocked w cs e =
-    shown-over w (sinceNow (w .core .state .blocked)) cs (λ _ _. ap (λ (k : Core). k .stores .page) e)
+waiting-copies f kept w cs e =
+    shown-over w (sinceNow (w .core .state)) cs (λ _ _. ap (λ (k : Core). k .stores .page) e)
     (λ v. absurd (false≢true (sym (ap (λ (k : Core). k .state .sheet .waiting) e) ∙ v)))
 
 -- The nth of them is copy n.

@@ -8,8 +8,10 @@ use Rattle.numbers.specs.Numbers.{isAccepted}
 use Rattle.copies.specs.Copies.{copyCount}
 use Rattle.calls.specs.declared.Command.{Command}
 use Rattle.calls.specs.declared.Command.the-variants.{Write, Move, Controls, Loads, Unlisted}
+use Rattle.calls.specs.declared.State.{State}
 use Rattle.calls.specs.Core.{Core, World, started}
 use Rattle.calls.specs.Commands.{decode, traitsOf}
+use Rattle.calls.specs.Reset.{Kept, keptOf}
 use Rattle.calls.specs.Calls.{Call, command, compose, release, refusalOf, Copy, copyAt, effect, step}
 
 -- Calls: what a list of calls leaves, where each gets what the one before it left.
@@ -62,20 +64,20 @@ unfoldable pub gives : Core → List Call → List Given
 gives k [] = []
 gives k (c ∷ cs) = given k c ∷ gives (effect k c .core) cs
 
--- Demand 3: the data-check switch at the latest finished reset, and what counts since, with what each gave. The call that finishes a reset
--- is the reset, and not since it.
+-- Demand 3: what the latest finished reset kept, and what counts since, with what each gave. The call that finishes a reset is the reset,
+-- and not since it.
 pub record Since : Type 0 where
-  pub switch : Bool
+  pub kept : Kept
   pub deeds : List Deed
   pub gave : List Given
 
-unfoldable pub sinceNow : Bool → Since
-sinceNow blocked = record { switch = blocked; deeds = []; gave = [] }
+unfoldable pub sinceNow : State → Since
+sinceNow s = record { kept = keptOf s; deeds = []; gave = [] }
 
 unfoldable pub note : Core → Since → Call → Since
 note k s c =
-    cond (finishesReset k c) (sinceNow (k .state .blocked))
-    (cond (counts k c) (record { switch = s .switch; deeds = s .deeds ++ (deedOf c ∷ []); gave = s .gave ++ (given k c ∷ []) })
+    cond (finishesReset k c) (sinceNow (effect k c .core .state))
+    (cond (counts k c) (record { kept = s .kept; deeds = s .deeds ++ (deedOf c ∷ []); gave = s .gave ++ (given k c ∷ []) })
     s)
 
 unfoldable pub sinceOver : Core → Since → List Call → Since
@@ -84,4 +86,4 @@ sinceOver k s (c ∷ cs) = sinceOver (effect k c .core) (note k s c) cs
 
 -- Demand 3: a start counts as a finished reset; w is a printer just started.
 unfoldable pub sinceReset : World → List Call → Since
-sinceReset w cs = sinceOver (w .core) (sinceNow (w .core .state .blocked)) cs
+sinceReset w cs = sinceOver (w .core) (sinceNow (w .core .state)) cs

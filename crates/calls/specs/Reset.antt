@@ -21,21 +21,27 @@ blankSheet l = record { line = l; written = false; waiting = false; due = false 
 unfoldable pub noCells : List ℕ
 noCells = zeros pageSize
 
--- The reset. Of what was before, it looks at what Start fixed, at the check switch, which stays, and at the page's bytes, and at nothing
--- else.
-unfoldable pub resetState : Fixed → Bool → State
-resetState f blocked =
-    record { fixed = f; blocked = blocked; forms = formsOf (startFcb (f .length)); slots = startSlots; copies = startCopies; sheet = blankSheet 1 }
+-- What a reset keeps of a state, besides what Start fixed: the check switch.
+pub record Kept : Type 0 where
+  pub blocked : Bool
+
+abbrev pub keptOf : State → Kept
+keptOf s = record { blocked = s .blocked }
+
+-- The reset. Of what was before, it looks at what Start fixed, at what it keeps, and at the page's bytes, and at nothing else.
+unfoldable pub resetState : Fixed → Kept → State
+resetState f k =
+    record { fixed = f; blocked = k .blocked; forms = formsOf (startFcb (f .length)); slots = startSlots; copies = startCopies; sheet = blankSheet 1 }
 
 unfoldable pub resetStores : List ℕ → Stores
 resetStores page = record { page = page; legends = noLegends; tables = startTables }
 
 unfoldable pub reset : Core → Core
-reset k = record { state = resetState (k .state .fixed) (k .state .blocked); stores = resetStores (k .stores .page) }
+reset k = record { state = resetState (k .state .fixed) (keptOf (k .state)); stores = resetStores (k .stores .page) }
 
 -- The printer as Start or a finished reset leaves it.
-unfoldable pub fresh : Fixed → Bool → Core
-fresh f blocked = record { state = resetState f blocked; stores = resetStores noCells }
+unfoldable pub fresh : Fixed → Kept → Core
+fresh f k = record { state = resetState f k; stores = resetStores noCells }
 
 -- Byte 3 tells how the printer stands; Sense replies it, the five bytes that are kept, and zeros: `senseSize` bytes in all.
 unfoldable pub byte3 : State → ℕ

@@ -13,7 +13,7 @@ use Rattle.copies.specs.Copies.{pairSize}
 use Rattle.calls.specs.declared.Fixed.{Fixed}
 use Rattle.calls.specs.declared.State.{State}
 use Rattle.calls.specs.Core.{Stores, sizesOk, World}
-use Rattle.calls.specs.Reset.{fresh}
+use Rattle.calls.specs.Reset.{Kept, fresh}
 use Rattle.calls.specs.Calls.{Outcome}
 
 -- Calls: what Start is asked for, the numbers as they were passed; and what it fixes.
@@ -38,8 +38,11 @@ unfoldable pub startRefusal : Asked → Stores → Refusal
 startRefusal a m = firstOr Accepted (startTests a m)
 
 -- Calls, Reset and sense: what an accepted Start leaves: all as a reset leaves it, the page empty, the checks allowed, the sense clear.
+abbrev pub startKept : Kept
+startKept = record { blocked = false }
+
 unfoldable pub startWorld : Asked → World
-startWorld a = record { core = fresh (fixedBy a) false; sense = noSense }
+startWorld a = record { core = fresh (fixedBy a) startKept; sense = noSense }
 
 -- Numbers: what a refused Start hands back: a state of all zeros, beside the stores as they were.
 unfoldable pub noState : State

@@ -71,7 +71,7 @@ impl Printer {
     // The starting state on a listed form, which a reset puts back; the check switch stays.
     pub(crate) fn start_state(fixed: Fixed, blocked: bool) -> State
         requires { ⌜ listed formLengths (fixed .length) ≡ true ⌝ }
-        ensures { λ r. ⌜ r ≡ resetState fixed blocked ⌝ }
+        ensures { λ r. ⌜ r ≡ resetState fixed (record { blocked = blocked }) ⌝ }
     {
         let length = fixed.length;
         let forms = Printer::start_fcb(length);

@@ -1,5 +1,5 @@
 -- What a method did to the printer that bytes stand for, it did to the bytes, once its printer is put back into them.
-use Prim.Native.Nat.{ℕ, _+_, _<_}
+use Prim.Native.Nat.{ℕ}
 use mathlib.Core.Path.{_≡_, refl, sym, ap, _∙_}
 use mathlib.Core.Bool.{Bool, true, false, cond}
 use mathlib.Core.List.{List}
@@ -17,9 +17,8 @@ use Rattle.calls.specs.Effects.{Effect, refused, done, movedCore, doMove, writt
 use Rattle.calls.specs.Calls.{Outcome, outcomeOf}
 use Rattle.printer.specs.declared.Printer.{Printer}
 use Rattle.printer.specs.declared.Step.{Step}
-use Rattle.printer.specs.Layout.{lengthAt}
 use Rattle.printer.specs.Worlds.{coreOf, outcome}
-use Rattle.state.specs.State.{printerBytes, byteAt, stateAt, senseAt, coreAt, worldAt, printerAt, readable, OwnSheet, SameArrays}
+use Rattle.state.specs.State.{printerBytes, stateAt, senseAt, coreAt, worldAt, printerAt, Bytes, readable, OwnSheet, SameArrays}
 use Rattle.state.specs.Host.{left, shown, bytesIn}
 use Rattle.state.proofs.Round.{back}
 
@@ -43,7 +42,7 @@ module _ (s : List ℕ) {p : Printer} (d : p ≡ printerAt s) where
     put-back x z = rw (x, z) (ap shown (of-bytes b₀ m f h))
 
     -- where the printer is the bytes' own still
-    pub left-alone : {a : Answer} → byteAt s (lengthAt + 1) < 256 → readable s ≡ true → outcomeOf (senseAt s) b₀ (f (coreAt s m)) .world ≡ worldAt s m → a ≡ r .answer
+    pub left-alone : {a : Answer} → Bytes s → readable s ≡ true → outcomeOf (senseAt s) b₀ (f (coreAt s m)) .world ≡ worldAt s m → a ≡ r .answer
         → left a b s m′ ≡ shown (outcomeOf (senseAt s) b₀ (f (coreAt s m)))
     left-alone low e w x =
         let o = of-bytes b₀ m f h in

@@ -1,6 +1,6 @@
 -- What a public call's contract comes to: bytes and stores that a printer can have get its step, any others get 9 and are left; an accepted call has done
 -- what `perform` says, a refused one what its row says.
-use Prim.Native.Nat.{ℕ, _+_, _^_, _≤_, _<_}
+use Prim.Native.Nat.{ℕ, _^_, _<_}
 use mathlib.Core.Path.{_≡_, refl, sym, ap, _∙_}
 use mathlib.Core.Bool.{Bool, true, false, cond, _&&_}
 use mathlib.Core.List.{List, []}
@@ -17,8 +17,8 @@ use Rattle.calls.specs.Effects.{Effect, refused}
 use Rattle.calls.specs.Calls.{Call, refusalOf, perform, sizeOf, lent, Outcome, outcomeOf, step}
 use Rattle.calls.specs.Start.{Asked, startOutcome}
 use Rattle.calls.proofs.Refused.{refused-effect, accepted-effect, nine}
-use Rattle.printer.specs.Layout.{lengthAt, referenceAt, stateSize}
-use Rattle.state.specs.State.{byteAt, stateAt, coreAt, worldAt, readable}
+use Rattle.printer.specs.Layout.{referenceAt, stateSize}
+use Rattle.state.specs.State.{stateAt, coreAt, worldAt, Bytes, readable}
 use Rattle.state.specs.Contents.{soundBytes}
 use Rattle.state.specs.Packed.{packed}
 use Rattle.state.specs.Host.{Called, called, left, shown, unread, callBytes, startBytes}
@@ -39,13 +39,13 @@ module _ (w : World) (c : Call) {x : Refusal} {o : Outcome} (given : x ≡ refus
   step-refused n e r h = rw (refused-effect (w .core) c (ap isAccepted (sym given) ∙ e), ← given) (rw (← r) h)
 
 module _ (s : List ℕ) (m : Stores) (c : Call) where
-  nine-read : (t : Bool) → byteAt s (lengthAt + 1) < 256 → readable s ≡ t → (t && coreOk (coreAt s m)) ≡ false
+  nine-read : (t : Bool) → Bytes s → readable s ≡ t → (t && coreOk (coreAt s m)) ≡ false
       → cond t (shown (step (worldAt s m) c)) (unread (lent c) s m) ≡ unread (lent c) s m
   nine-read true low e n = ap shown (nine (worldAt s m) c n) ∙ ap (λ (l : List ℕ). unread (lent c) l m) (back s low e)
   nine-read false low e n = refl
 
   -- bytes that no printer has, or stores that none has: 9, and nothing is written
-  pub call-unsound : {answer : ℕ} → byteAt s (lengthAt + 1) < 256 → soundBytes s m ≡ false → answer ≡ packed (only BadStore 0) → called answer (lent c) s m ≡ callBytes s m c
+  pub call-unsound : {answer : ℕ} → Bytes s → soundBytes s m ≡ false → answer ≡ packed (only BadStore 0) → called answer (lent c) s m ≡ callBytes s m c
   unfolding callBytes soundBytes
   call-unsound low n a = rw a (sym (nine-read (readable s) low refl n))
 
@@ -56,10 +56,10 @@ module _ (s : List ℕ) (m : Stores) (c : Call) where
   call-sound a e h p = rw (p, sound-read s m e) h
 
   -- and 64 bits hold its answer
-  pub call-room : (a : Answer) {buffer bytes : List ℕ} {m′ : Stores} → byteAt s referenceAt ≤ 255
+  pub call-room : (a : Answer) {buffer bytes : List ℕ} {m′ : Stores} → Bytes s
       → left a buffer bytes m′ ≡ shown (step (worldAt s m) c) → packed a < 2 ^ 64
   unfolding stateAt
-  call-room a low h = rw (ap (λ (k : Called). k .answer) h) (fields _ (step-fits (worldAt s m) c low) .above)
+  call-room a low h = rw (ap (λ (k : Called). k .answer) h) (fields _ (step-fits (worldAt s m) c (low referenceAt)) .above)
 
 -- what judging found good stands for a printer, and is as long as a state
 pub judged : {s : List ℕ} {m : Stores} {w : Layout} → soundBytes s m ≡ true → w ≡ laidOut (stateAt s) → Judged s m w

@@ -1,5 +1,5 @@
 -- A printer's bytes stand for that printer, and bytes that stand for a printer are that printer's bytes.
-use Prim.Native.Nat.{ℕ, zero, suc, _+_, _*_, _/_, _%_, _<_}
+use Prim.Native.Nat.{ℕ, zero, suc, _+_, _*_, _/_, _%_, _≤_}
 use mathlib.Core.Path.{_≡_, refl, sym, ap, _∙_}
 use mathlib.Core.Bool.{Bool, true, false}
 use mathlib.Core.List.{List, [], _∷_, _++_, map}
@@ -21,7 +21,7 @@ use Rattle.calls.specs.Core.{withSheet}
 use Rattle.calls.specs.Premises.{Sized}
 use Rattle.printer.specs.declared.Printer.{Printer}
 use Rattle.printer.specs.Layout.{lengthAt, blockedAt, loadedAt, sheetAt, writtenAt, waitingAt, dueAt, pairsAt, fcbAt, stateSize}
-use Rattle.state.specs.State.{sheetBytes, smallBytes, bytesOf, printerBytes, stateAt, senseAt, readable, flagPlaces, byteAt, flagAt, OwnSheet, SameArrays}
+use Rattle.state.specs.State.{sheetBytes, smallBytes, bytesOf, printerBytes, stateAt, senseAt, readable, flagPlaces, byteAt, flagAt, Bytes, OwnSheet, SameArrays}
 
 -- a flag as a byte, and back
 bit-small : (b : Bool) → leb (boolByte b) 1 ≡ true
@@ -104,19 +104,19 @@ cut s e =
     ∙ rw (arrays s e) (take-append-drop pairsAt s)
 
 -- the bytes of a number of two, high byte first
-high : (a b : ℕ) → b < 256 → (a * 256 + b) / 256 ≡ a
+high : (a b : ℕ) → b ≤ 255 → (a * 256 + b) / 256 ≡ a
 high a b h = omega arith
 
-low : (a b : ℕ) → b < 256 → (a * 256 + b) % 256 ≡ b
+low : (a b : ℕ) → b ≤ 255 → (a * 256 + b) % 256 ≡ b
 low a b h = omega arith
 
--- Bytes that stand for a printer come back from it. Of their being bytes, all that counts is that of the form length's lower one.
-pub back : (s : List ℕ) → byteAt s (lengthAt + 1) < 256 → readable s ≡ true → bytesOf (stateAt s) (senseAt s) ≡ s
+-- Bytes that stand for a printer come back from it.
+pub back : (s : List ℕ) → Bytes s → readable s ≡ true → bytesOf (stateAt s) (senseAt s) ≡ s
 unfolding bytesOf stateAt senseAt
 back s h e =
     rw (
-      high (byteAt s lengthAt) (byteAt s (lengthAt + 1)) h,
-      low (byteAt s lengthAt) (byteAt s (lengthAt + 1)) h,
+      high (byteAt s lengthAt) (byteAt s (lengthAt + 1)) (h (lengthAt + 1)),
+      low (byteAt s lengthAt) (byteAt s (lengthAt + 1)) (h (lengthAt + 1)),
       flag-at s e blockedAt refl,
       flag-at s e loadedAt refl,
       flag-at s e (loadedAt + 1) refl,
@@ -129,12 +129,12 @@ back s h e =
     (cut s (readable-size s e))
 
 -- Two states that are different bytes are different printers.
-pub same-bytes : (s t : List ℕ) → byteAt s (lengthAt + 1) < 256 → byteAt t (lengthAt + 1) < 256 → readable s ≡ true → readable t ≡ true → stateAt s ≡ stateAt t
+pub same-bytes : (s t : List ℕ) → Bytes s → Bytes t → readable s ≡ true → readable t ≡ true → stateAt s ≡ stateAt t
     → senseAt s ≡ senseAt t → s ≡ t
 same-bytes s t h k d e p q = sym (back s h d) ∙ (λ i. bytesOf (p i) (q i)) ∙ back t k e
 
 -- A printer that differs from the bytes' own in its sheet and its sense alone has the bytes with these laid over theirs.
-pub put-sheet-bytes : (p : Printer) (s : List ℕ) → byteAt s (lengthAt + 1) < 256 → OwnSheet p s
+pub put-sheet-bytes : (p : Printer) (s : List ℕ) → Bytes s → OwnSheet p s
     → take sheetAt s ++ (sheetBytes (p .state .sheet) (p .sense) ++ drop pairsAt s) ≡ printerBytes p
 unfolding bytesOf
 put-sheet-bytes p s h o =

@@ -1,6 +1,6 @@
 -- docs/STATE.md: a printer's state as bytes, its fields in the order of the places that the printer's Layout gives them; and the printer that bytes stand
 -- for.
-use Prim.Native.Nat.{ℕ, _+_, _*_, _/_, _%_}
+use Prim.Native.Nat.{ℕ, _+_, _*_, _/_, _%_, _≤_}
 use mathlib.Core.Path.{_≡_}
 use mathlib.Core.Bool.{Bool, true, false}
 use mathlib.Core.List.{List, [], _∷_, _++_}
@@ -69,12 +69,16 @@ byteAt s n = getD s n 0
 abbrev pub flagAt : List ℕ → ℕ → Bool
 flagAt s n = eqb (byteAt s n) 1
 
+-- A number of two bytes, high byte first.
+abbrev pub pairAt : List ℕ → ℕ → ℕ
+pairAt s n = byteAt s n * 256 + byteAt s (n + 1)
+
 unfoldable pub stateAt : List ℕ → State
 stateAt s =
     record {
       fixed =
           record {
-            length = byteAt s lengthAt * 256 + byteAt s (lengthAt + 1);
+            length = pairAt s lengthAt;
             pitches = byteAt s pitchesAt ∷ byteAt s (pitchesAt + 1) ∷ byteAt s (pitchesAt + 2) ∷ byteAt s (pitchesAt + 3) ∷ [];
           };
       blocked = flagAt s blockedAt;
@@ -106,6 +110,10 @@ coreAt s m = record { state = stateAt s; stores = m }
 
 abbrev pub worldAt : List ℕ → Stores → World
 worldAt s m = record { core = coreAt s m; sense = senseAt s }
+
+-- What a host lends is bytes.
+abbrev pub Bytes : List ℕ → Type 0
+Bytes s = (n : ℕ) → byteAt s n ≤ 255
 
 -- Bytes that stand for a printer: as many as a state has, and each flag 0 or 1. Every other range is the printer's own to judge.
 abbrev pub flagPlaces : List ℕ

@@ -2,12 +2,13 @@
 -- same except for the sense.
 use Prim.Native.Nat.{ℕ}
 use mathlib.Core.Path.{_≡_, sym, ap, _∙_}
-use mathlib.Core.Bool.{Bool, true}
+use mathlib.Core.Bool.{true}
 use mathlib.Core.List.{List, [], _∷_, reverse, reverse-reverse}
 use native.Mathlib.Omega.{arith}
 use lib.ListN.{length}
 use Rattle.numbers.specs.Numbers.{noSense, isAccepted}
 use Rattle.calls.specs.Core.{Stores, Core, World}
+use Rattle.calls.specs.Reset.{Kept}
 use Rattle.calls.specs.Calls.{Call, compose, effect, step}
 use Rattle.calls.specs.Start.{Asked, startRefusal, startWorld}
 use Rattle.calls.specs.Lists.{worldAfter, sinceReset}
@@ -79,26 +80,26 @@ module _ (v w : World) (z : Sized (v .core .state)) (e : v .core ≡ w .core)
 
 -- An accepted Start leaves the same to every host, so that both lists are made on the same printer.
 module _ (a : Asked) (m : Stores) (e : isAccepted (startRefusal a m) ≡ true) (z : Sized (startWorld a .core .state)) where
-  alike : (xs ys : List Call) → sinceReset (startWorld a) xs .switch ≡ sinceReset (startWorld a) ys .switch
+  alike : (xs ys : List Call) → sinceReset (startWorld a) xs .kept ≡ sinceReset (startWorld a) ys .kept
       → sinceReset (startWorld a) xs .deeds ≡ sinceReset (startWorld a) ys .deeds → Alike (startWorld a) (startWorld a) xs ys
   alike xs ys = rw (started-world a m e) at (demand-3 a m m xs ys e e)
 
-  left-alike : (xs ys : List Call) → sinceReset (startWorld a) xs .switch ≡ sinceReset (startWorld a) ys .switch
+  left-alike : (xs ys : List Call) → sinceReset (startWorld a) xs .kept ≡ sinceReset (startWorld a) ys .kept
       → sinceReset (startWorld a) xs .deeds ≡ sinceReset (startWorld a) ys .deeds
       → HeldAlike (heldIn (worldAfter (startWorld a) xs)) (heldIn (worldAfter (startWorld a) ys))
   left-alike xs ys p q =
       let d = alike xs ys p q in
       held-alike (worldAfter (startWorld a) xs) (worldAfter (startWorld a) ys) (sized-calls (startWorld a) xs z) (d .core) (d .composes)
 
-  same-noted : {x y : Noted} {l k : List Noted} {b c : Bool} (xs ys : List Call) → b ≡ c → deedsIn (x ∷ l) ≡ deedsIn (y ∷ k) → x .answer ≡ y .answer
+  same-noted : {x y : Noted} {l k : List Noted} {b c : Kept} (xs ys : List Call) → b ≡ c → deedsIn (x ∷ l) ≡ deedsIn (y ∷ k) → x .answer ≡ y .answer
       → Ends (startWorld a) xs b x l → Ends (startWorld a) ys c y k → SameNoted x y
   unfolding bytesAfter
   same-noted {x} {y} xs ys p q r f g =
-      let d = left-alike xs ys (f .switch ∙ p ∙ sym (g .switch)) (f .deeds ∙ ap reverse q ∙ sym (g .deeds)) in
+      let d = left-alike xs ys (f .keeps ∙ p ∙ sym (g .keeps)) (f .deeds ∙ ap reverse q ∙ sym (g .deeds)) in
       let h : HeldAlike (x .after) (y .after) = rw (f .after, g .after) d in
       record { answer = r; copies = λ n out. h .answers [] (compose n out); cells = λ n out. h .composes [] n out; after = h }
 
-  pairwise : {l k : List Noted} {b c : Bool} → b ≡ c → deedsIn l ≡ deedsIn k → answersIn l ≡ answersIn k → Told (startWorld a) b l → Told (startWorld a) c k
+  pairwise : {l k : List Noted} {b c : Kept} → b ≡ c → deedsIn l ≡ deedsIn k → answersIn l ≡ answersIn k → Told (startWorld a) b l → Told (startWorld a) c k
       → Pairwise l k
   pairwise p q r none none = done
   pairwise p q r none (next ys g t) = absurd (let h : _≡_ {A = ℕ} 0 1 = cc in omega arith)
@@ -106,12 +107,12 @@ module _ (a : Asked) (m : Stores) (e : isAccepted (startRefusal a m) ≡ true) (
   pairwise p q r (next xs f s) (next ys g t) = both (same-noted xs ys p q (cc) f g) (pairwise p (cc) (cc) s t)
 
 -- Demand 3: from two accepted Starts with the same form and pitches, over whatever bytes and stores, lists of calls with the same deeds since the latest
--- finished reset, the switch alike at it. trestlepip_start passes four pitches.
+-- finished reset, which kept the same. trestlepip_start passes four pitches.
 pub demand-3-over-bytes : (a : Asked) (s s′ : List ℕ) (m m′ : Stores) (xs ys : List Call) → length (a .pitches) ≡ 4
     → numberIn (startBytes a s m .answer) ≡ 0
     → numberIn (startBytes a s′ m′ .answer) ≡ 0
     → (let h = heldOf (startBytes a s m) in let h′ = heldOf (startBytes a s′ m′) in
-    notes h xs .switch ≡ notes h′ ys .switch
+    notes h xs .kept ≡ notes h′ ys .kept
     → deedsIn (notes h xs .calls) ≡ deedsIn (notes h′ ys .calls)
     → HostsAlike h h′ xs ys)
 demand-3-over-bytes a s s′ m m′ xs ys four e e′ =
@@ -122,10 +123,10 @@ demand-3-over-bytes a s s′ m m′ xs ys four e e′ =
     (λ p q.
     let x = notes-agree a xs z in
     let y = notes-agree a ys z in
-    let switch = sym (x .switch) ∙ p ∙ y .switch in
+    let kept = sym (x .kept) ∙ p ∙ y .kept in
     let deeds = sym (x .deeds) ∙ ap reverse q ∙ y .deeds in
-    let answers = x .answers ∙ ap packedIn (alike a m t z xs ys switch deeds .gave) ∙ sym (y .answers) in
+    let answers = x .answers ∙ ap packedIn (alike a m t z xs ys kept deeds .gave) ∙ sym (y .answers) in
     record {
       noted = pairwise a m t z p q (sym (reverse-reverse _) ∙ ap reverse answers ∙ reverse-reverse _) (x .told) (y .told);
-      later = rw (list-steps w xs z, list-steps w ys z) (left-alike a m t z xs ys switch deeds);
+      later = rw (list-steps w xs z, list-steps w ys z) (left-alike a m t z xs ys kept deeds);
     })

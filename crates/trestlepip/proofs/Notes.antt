@@ -1,4 +1,4 @@
--- A host's notes are what the definitions say of its calls since the latest finished reset: the switch, the deeds and the answers.
+-- A host's notes are what the definitions say of its calls since the latest finished reset: what it kept, the deeds and the answers.
 use Prim.Native.Nat.{ℕ}
 use mathlib.Core.Path.{_≡_, refl, sym, ap, _∙_}
 use mathlib.Core.Bool.{Bool, true, false, cond, not, _&&_, _||_, false≢true}
@@ -19,7 +19,7 @@ use Rattle.calls.specs.declared.Command.the-variants.{Write, Move, Controls, Lo
 use Rattle.calls.specs.Core.{Core, World, started}
 use Rattle.calls.specs.Commands.{Issued, decode, controlTraits, traitsOf}
 use Rattle.calls.specs.Contents.{dueOk}
-use Rattle.calls.specs.Reset.{blankSheet, resetState, reset, fresh}
+use Rattle.calls.specs.Reset.{blankSheet, Kept, keptOf, resetState, reset, fresh}
 use Rattle.calls.specs.Effects.{Effect, refused, done, movedSheet, moveOf, writtenSheet, written, atLine1, loaded, doMove, doWrite, doLoad, completing, doControl, doCommand}
 use Rattle.calls.specs.Calls.{Call, command, compose, release, emptied, released, doRelease, perform, effect, step}
 use Rattle.calls.specs.Start.{Asked, startWorld}
@@ -36,7 +36,7 @@ use Rattle.state.specs.Host.{heldIn, shown}
 use Rattle.state.proofs.Fitting.{accepted-fits}
 use Rattle.state.proofs.Fields.{fields, number-back}
 use Rattle.trestlepip.specs.Host.{readyIn}
-use Rattle.trestlepip.specs.Notes.{countsBy, finishesBy, dueBy, controlSwitch, commandSwitch, switchBy, Noted, Notes, deedsIn, noteCall, notesOver, notes}
+use Rattle.trestlepip.specs.Notes.{countsBy, finishesBy, dueBy, controlSwitch, commandSwitch, keptBy, Noted, Notes, deedsIn, noteCall, notesOver, notes}
 use Rattle.trestlepip.proofs.Steps.{call-steps}
 
 -- What a command leaves of switch and reset, where none is due before it: Block and Allow set the switch, and only an Initialize that completes a page
@@ -141,11 +141,11 @@ module _ (w : World) where
   due-told (compose n out) a = absurd (false≢true a)
   due-told release a = sym (release-leaves (w .core) a .1)
 
-  switch-told : (c : Call) → counts (w .core) c ≡ true → switchBy c (w .core .state .blocked) ≡ effect (w .core) c .core .state .blocked
-  unfolding switchBy counts
-  switch-told (command i) a = sym (counted (w .core) i a .blocked)
-  switch-told (compose n out) a = absurd (false≢true a)
-  switch-told release a = sym (release-leaves (w .core) a .0)
+  kept-told : (c : Call) → counts (w .core) c ≡ true → keptBy c (keptOf (w .core .state)) ≡ keptOf (effect (w .core) c .core .state)
+  unfolding keptBy counts
+  kept-told (command i) a = rw (counted (w .core) i a .blocked)
+  kept-told (compose n out) a = absurd (false≢true a)
+  kept-told release a = rw (release-leaves (w .core) a .0)
 
 -- The packed answers of what a host noted, and of what the definitions say.
 abbrev pub answersIn : List Noted → List ℕ
@@ -155,23 +155,23 @@ abbrev pub packedIn : List Given → List ℕ
 packedIn l = map (λ (g : Given). packed (g .answer)) l
 
 -- Each noted call x ends a part xs of the calls made on w. The deeds since the latest finished reset of xs are those noted up to x.
-pub record Ends (w : World) (xs : List Call) (blocked : Bool) (x : Noted) (l : List Noted) : Type 0 where
-  pub switch : sinceReset w xs .switch ≡ blocked
+pub record Ends (w : World) (xs : List Call) (kept : Kept) (x : Noted) (l : List Noted) : Type 0 where
+  pub keeps : sinceReset w xs .kept ≡ kept
   pub deeds : sinceReset w xs .deeds ≡ reverse (deedsIn (x ∷ l))
   pub after : x .after ≡ heldIn (worldAfter w xs)
 
-pub data Told (w : World) (blocked : Bool) : List Noted → Type 0 where
-  none : Told w blocked []
-  next : {x : Noted} {l : List Noted} (xs : List Call) → Ends w xs blocked x l → Told w blocked l → Told w blocked (x ∷ l)
+pub data Told (w : World) (kept : Kept) : List Noted → Type 0 where
+  none : Told w kept []
+  next : {x : Noted} {l : List Noted} (xs : List Call) → Ends w xs kept x l → Told w kept l → Told w kept (x ∷ l)
 
 -- The notes n of calls that were made on w and left v, beside what the definitions say of them, s.
 pub record Agrees (w v : World) (s : Since) (n : Notes) : Type 0 where
-  pub switch : n .switch ≡ s .switch
+  pub kept : n .kept ≡ s .kept
   pub deeds : reverse (deedsIn (n .calls)) ≡ s .deeds
   pub answers : reverse (answersIn (n .calls)) ≡ packedIn (s .gave)
-  pub blocked : n .blocked ≡ v .core .state .blocked
+  pub keeps : n .keeps ≡ keptOf (v .core .state)
   pub due : n .due ≡ v .core .state .sheet .due
-  pub told : Told w (n .switch) (n .calls)
+  pub told : Told w (n .kept) (n .calls)
 
 -- A list with one more call.
 after-one : (w : World) (xs : List Call) (c : Call) → worldAfter w (xs ++ (c ∷ [])) ≡ step (worldAfter w xs) c .world
@@ -186,10 +186,10 @@ since-one w s [] c = refl
 since-one w s (x ∷ xs) c = since-one (step w x .world) (note (w .core) s x) xs c
 
 module _ (w v : World) (s : Since) (xs : List Call) (ew : worldAfter w xs ≡ v) (es : sinceReset w xs ≡ s) (n : Notes) (h : Agrees w v s n) (c : Call) where
-  blocked-noted : cond (counts (v .core) c) (switchBy c (n .blocked)) (n .blocked) ≡ effect (v .core) c .core .state .blocked
-  blocked-noted =
-      cond-has (λ (b : Bool). b ≡ effect (v .core) c .core .state .blocked) (counts (v .core) c) (λ t. rw (h .blocked) (switch-told v c t))
-      (λ t. rw (idle-core (v .core) c t) (h .blocked))
+  keeps-noted : cond (counts (v .core) c) (keptBy c (n .keeps)) (n .keeps) ≡ keptOf (effect (v .core) c .core .state)
+  keeps-noted =
+      cond-has (λ (k : Kept). k ≡ keptOf (effect (v .core) c .core .state)) (counts (v .core) c) (λ t. rw (h .keeps) (kept-told v c t))
+      (λ t. rw (idle-core (v .core) c t) (h .keeps))
 
   due-noted : cond (counts (v .core) c) (dueBy c (packed (step v c .answer))) (n .due) ≡ effect (v .core) c .core .state .sheet .due
   due-noted =
@@ -204,7 +204,7 @@ module _ (w v : World) (s : Since) (xs : List Call) (ew : worldAfter w xs ≡ v)
 
   since-call : sinceReset w (xs ++ (c ∷ [])) ≡ note (v .core) s c
   unfolding sinceReset
-  since-call = since-one w (sinceNow (w .core .state .blocked)) xs c ∙ rw (ew, es)
+  since-call = since-one w (sinceNow (w .core .state)) xs c ∙ rw (ew, es)
 
   agrees-call : Agrees w (step v c .world) (note (v .core) s c) (noteCall n c (shown (step v c)))
   unfolding noteCall note sinceNow step given
@@ -214,24 +214,24 @@ module _ (w v : World) (s : Since) (xs : List Call) (ew : worldAfter w xs ≡ v)
           → Agrees w (step v c .world) (note (v .core) s c) (noteCall n c (shown (step v c)))
       go true ep q eq =
           rw (finishes-noted, counts-told v c, ep)
-          (record { switch = h .blocked; deeds = refl; answers = refl; blocked = blocked-noted; due = due-noted; told = none })
+          (record { kept = keeps-noted; deeds = refl; answers = refl; keeps = keeps-noted; due = due-noted; told = none })
       go false ep true eq =
           let since = rw (ep, eq) at since-call in
           let deeds = reverse-cons (deedOf c) (deedsIn (n .calls)) ∙ ap (λ (l : List Deed). l ++ (deedOf c ∷ [])) (h .deeds) in
           rw (finishes-noted, counts-told v c, ep)
           (record {
-            switch = rw eq (h .switch);
+            kept = rw eq (h .kept);
             deeds = rw eq deeds;
             answers =
                 rw eq
                 (reverse-cons _ (answersIn (n .calls)) ∙ rw (h .answers) (sym (map-append (λ (g : Given). packed (g .answer)) (s .gave) (given (v .core) c ∷ []))));
-            blocked = blocked-noted;
+            keeps = keeps-noted;
             due = due-noted;
             told =
                 rw eq
                 (next (xs ++ (c ∷ []))
                 (record {
-                  switch = ap (λ (x : Since). x .switch) since ∙ sym (h .switch);
+                  keeps = ap (λ (x : Since). x .kept) since ∙ sym (h .kept);
                   deeds = ap (λ (x : Since). x .deeds) since ∙ sym deeds;
                   after = ap heldIn (sym after-call);
                 })
@@ -239,7 +239,7 @@ module _ (w v : World) (s : Since) (xs : List Call) (ew : worldAfter w xs ≡ v)
           })
       go false ep false eq =
           rw (finishes-noted, counts-told v c, ep)
-          (record { switch = rw eq (h .switch); deeds = rw eq (h .deeds); answers = rw eq (h .answers); blocked = blocked-noted; due = due-noted; told = rw eq (h .told) })
+          (record { kept = rw eq (h .kept); deeds = rw eq (h .deeds); answers = rw eq (h .answers); keeps = keeps-noted; due = due-noted; told = rw eq (h .told) })
 
 -- Any list of calls, then from an accepted Start.
 agrees-over : (w v : World) (s : Since) (xs cs : List Call) (n : Notes) → worldAfter w xs ≡ v → sinceReset w xs ≡ s → Sized (v .core .state) → Agrees w v s n
@@ -256,4 +256,4 @@ pub notes-agree : (a : Asked) (cs : List Call) → Sized (startWorld a .core .st
 unfolding notes sinceReset worldAfter sinceOver sinceNow startWorld fresh resetState blankSheet
 notes-agree a cs z =
     let w = startWorld a in
-    agrees-over w w (sinceNow false) [] cs _ refl refl z (record { switch = refl; deeds = refl; answers = refl; blocked = refl; due = refl; told = none })
+    agrees-over w w (sinceNow (w .core .state)) [] cs _ refl refl z (record { kept = refl; deeds = refl; answers = refl; keeps = refl; due = refl; told = none })

@@ -1,6 +1,6 @@
 -- Refusals as a C host sees them: 9 is given exactly where no printer has the bytes, and a refused call writes nothing except the sense that the table
 -- gives.
-use Prim.Native.Nat.{ℕ, _+_, _<_}
+use Prim.Native.Nat.{ℕ}
 use mathlib.Core.Path.{_≡_, refl, ap, _∙_}
 use mathlib.Core.Bool.{Bool, true, false, cond, not, _&&_}
 use mathlib.Core.List.{List, [], _∷_}
@@ -15,8 +15,7 @@ use Rattle.calls.specs.Contents.{coreOk}
 use Rattle.calls.specs.Calls.{Call, refusalOf, sizeOf, lent, Outcome, step}
 use Rattle.calls.proofs.Refused.{refused-step, refused-keeps, nine, no-9}
 use Rattle.calls.proofs.Answers.{names}
-use Rattle.printer.specs.Layout.{lengthAt}
-use Rattle.state.specs.State.{bytesOf, byteAt, senseAt, coreAt, worldAt, readable}
+use Rattle.state.specs.State.{bytesOf, senseAt, coreAt, worldAt, Bytes, readable}
 use Rattle.state.specs.Contents.{soundBytes}
 use Rattle.state.specs.Packed.{packed}
 use Rattle.state.specs.Host.{Called, held, heldOf, bytesIn, shown, unread, callBytes}
@@ -39,8 +38,8 @@ pub record Untouched (s : List ℕ) (m : Stores) (c : Call) (x : Refusal) (k : C
   pub sense : senseAt (k .state) ≡ senseAfter (senseAt s) (rowOf (sizeOf c) x .sense)
   pub kept : listed (1 ∷ 3 ∷ 5 ∷ []) (numberIn (k .answer)) ≡ false → k .state ≡ s
 
--- Whatever bytes s and stores m a host lends. Of s being bytes, all that counts is that of the form length's lower one.
-module _ (s : List ℕ) (m : Stores) (low : byteAt s (lengthAt + 1) < 256) where
+-- Whatever bytes s and stores m a host lends.
+module _ (s : List ℕ) (m : Stores) (low : Bytes s) where
   -- bytes that no printer has, or stores that none has: 9 from every call, and nothing is written
   pub nine-unsound : (c : Call) → soundBytes s m ≡ false → callBytes s m c ≡ unread (lent c) s m
   unfolding callBytes soundBytes

@@ -16,7 +16,7 @@ use Rattle.numbers.proofs.Laws.{accepted-is}
 use Rattle.calls.specs.Core.{Stores}
 use Rattle.calls.specs.Reset.{fresh}
 use Rattle.calls.specs.Calls.{Call, lent, Outcome, step}
-use Rattle.calls.specs.Start.{Asked, fixedBy, startRefusal, startWorld, noState, noPrinter, startOutcome}
+use Rattle.calls.specs.Start.{Asked, fixedBy, startRefusal, startKept, startWorld, noState, noPrinter, startOutcome}
 use Rattle.calls.specs.Lists.{worldAfter}
 use Rattle.calls.specs.Premises.{Sized}
 use Rattle.calls.proofs.Accepted.{startable, started-world}
@@ -57,7 +57,7 @@ module _ (a : Asked) (s : List ℕ) (m : Stores) (accepted : numberIn (startByte
   module _ (four : length (a .pitches) ≡ 4) where
     pub start-sized : Sized (startWorld a .core .state)
     unfolding startWorld fresh
-    start-sized = reset-sized (fixedBy a) false (startable a m start-taken .form) four
+    start-sized = reset-sized (fixedBy a) startKept (startable a m start-taken .form) four
 
     -- what calls after it leave, and what each of them answers, writes and leaves, is what the definitions say
     pub list-after-start : (cs : List Call) → bytesAfter (heldOf (startBytes a s m)) cs ≡ heldIn (worldAfter (startWorld a) cs)

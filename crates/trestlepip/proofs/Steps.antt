@@ -1,5 +1,5 @@
 -- Calls over bytes are steps: what a C host gets, of one call and of a list of calls, is what the definitions say.
-use Prim.Native.Nat.{ℕ, _+_, _<_}
+use Prim.Native.Nat.{ℕ}
 use mathlib.Core.Path.{_≡_, refl, sym, ap, _∙_}
 use mathlib.Core.Bool.{true}
 use mathlib.Core.List.{List, [], _∷_}
@@ -8,8 +8,7 @@ use Rattle.calls.specs.Calls.{Call, step}
 use Rattle.calls.specs.Lists.{worldAfter}
 use Rattle.calls.specs.Premises.{Sized}
 use Rattle.calls.proofs.Invariants.{sized-call, sized-calls}
-use Rattle.printer.specs.Layout.{lengthAt}
-use Rattle.state.specs.State.{byteAt, worldAt, readable}
+use Rattle.state.specs.State.{worldAt, Bytes, readable}
 use Rattle.state.specs.Host.{Called, Held, held, heldOf, callOn, bytesAfter, heldIn, shown, callBytes}
 use Rattle.state.proofs.Round.{readable-bytes, state-back, sense-back, sized-at, back}
 
@@ -29,8 +28,8 @@ pub call-after : (w : World) (cs : List Call) (c : Call) → Sized (w .core .sta
     → callOn (bytesAfter (heldIn w) cs) c ≡ shown (step (worldAfter w cs) c)
 call-after w cs c z = ap (λ (h : Held). callOn h c) (list-steps w cs z) ∙ call-steps (worldAfter w cs) c (sized-calls w cs z)
 
--- Whatever bytes stand for a printer: the calls after them are that printer's. Of their being bytes, all that counts is that of the form length's lower one.
-pub bytes-step : (s : List ℕ) (m : Stores) (cs : List Call) → byteAt s (lengthAt + 1) < 256 → readable s ≡ true
+-- Whatever bytes stand for a printer: the calls after them are that printer's.
+pub bytes-step : (s : List ℕ) (m : Stores) (cs : List Call) → Bytes s → readable s ≡ true
     → bytesAfter (held s m) cs ≡ heldIn (worldAfter (worldAt s m) cs)
 bytes-step s m cs low e =
     ap (λ (l : List ℕ). bytesAfter (held l m) cs) (sym (back s low e)) ∙ list-steps (worldAt s m) cs (sized-at s e)

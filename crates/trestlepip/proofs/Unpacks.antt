@@ -1,5 +1,5 @@
 -- What a C host takes out of a packed answer is what the call answered.
-use Prim.Native.Nat.{ℕ, _≤_}
+use Prim.Native.Nat.{ℕ}
 use mathlib.Core.Path.{_≡_, refl}
 use mathlib.Core.Bool.{Bool, true, false, cond}
 use mathlib.Core.List.{List, []}
@@ -12,7 +12,7 @@ use Rattle.calls.specs.Core.{Stores}
 use Rattle.calls.specs.Calls.{Call, lent, Outcome, step}
 use Rattle.calls.specs.Start.{Asked, startOutcome}
 use Rattle.printer.specs.Layout.{referenceAt, stateSize}
-use Rattle.state.specs.State.{byteAt, stateAt, worldAt, readable}
+use Rattle.state.specs.State.{stateAt, worldAt, Bytes, readable}
 use Rattle.state.specs.Packed.{packed}
 use Rattle.state.specs.Host.{shown, unread, callBytes, startBytes}
 use Rattle.state.proofs.Fields.{Fits, Unpacked, fields, only-fits}
@@ -28,10 +28,10 @@ unpacks : (t : Bool) (o : Outcome) (buffer s : List ℕ) (m : Stores) → Fits (
 unpacks true o buffer s m h = record { packs = refl; fields = fields (o .answer) h }
 unpacks false o buffer s m h = record { packs = refl; fields = fields (only BadStore 0) (only-fits BadStore 0 (lit≤ tt)) }
 
-pub call-unpacks : (s : List ℕ) (m : Stores) (c : Call) → byteAt s referenceAt ≤ 255
+pub call-unpacks : (s : List ℕ) (m : Stores) (c : Call) → Bytes s
     → Unpacks (callBytes s m c .answer) (cond (readable s) (step (worldAt s m) c .answer) (only BadStore 0))
 unfolding callBytes stateAt
-call-unpacks s m c h = unpacks (readable s) (step (worldAt s m) c) (lent c) s m (step-fits (worldAt s m) c h)
+call-unpacks s m c h = unpacks (readable s) (step (worldAt s m) c) (lent c) s m (step-fits (worldAt s m) c (h referenceAt))
 
 pub start-unpacks : (a : Asked) (s : List ℕ) (m : Stores)
     → Unpacks (startBytes a s m .answer) (cond (eqb (length s) stateSize) (startOutcome a m .answer) (only BadStore 0))

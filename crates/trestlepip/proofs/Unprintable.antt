@@ -1,5 +1,5 @@
 -- T-01 as a C host sees it: what every answer's 64 bits tell of unprintable positions, whatever bytes were lent.
-use Prim.Native.Nat.{ℕ, _+_, _/_, _≤_}
+use Prim.Native.Nat.{ℕ, _+_, _/_}
 use mathlib.Core.Path.{_≡_, refl, sym, ap, _∙_}
 use mathlib.Core.Bool.{Bool, true, false, cond, _&&_, true≢false}
 use mathlib.Core.List.{List, []}
@@ -18,8 +18,8 @@ use Rattle.calls.specs.Calls.{Call, lent, Outcome, step}
 use Rattle.calls.specs.Start.{Asked, startRefusal, startOutcome}
 use Rattle.calls.proofs.Answers.{names}
 use Rattle.calls.proofs.Unprintable.{toldIn, isTranslating, tells, tells-none, tells-check}
-use Rattle.printer.specs.Layout.{blockedAt, referenceAt, sense0At, stateSize}
-use Rattle.state.specs.State.{byteAt, senseAt, stateAt, coreAt, worldAt, readable}
+use Rattle.printer.specs.Layout.{blockedAt, sense0At, stateSize}
+use Rattle.state.specs.State.{byteAt, senseAt, stateAt, coreAt, worldAt, Bytes, readable}
 use Rattle.state.specs.Host.{shown, unread, callBytes, startBytes}
 use Rattle.state.proofs.Round.{sense-back}
 use Rattle.state.proofs.Fields.{number-back}
@@ -30,7 +30,7 @@ use Rattle.trestlepip.proofs.Unpacks.{Unpacks, call-unpacks, start-unpa
 told-back : {n : ℕ} {a : Answer} → Unpacks n a → toldBy n ≡ toldIn a
 told-back u = rw (u .packs, u .fields .first, u .fields .count)
 
-module _ (s : List ℕ) (m : Stores) (byte : byteAt s referenceAt ≤ 255) where
+module _ (s : List ℕ) (m : Stores) (byte : Bytes s) where
   -- Both are 0 or neither is; the first is a position of a line.
   pub tells-in : (c : Call) → Tells (toldBy (callBytes s m c .answer))
   unfolding step

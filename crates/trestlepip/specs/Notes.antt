@@ -10,7 +10,9 @@ use Rattle.calls.specs.declared.Control.the-variants.{NoOp, SenseIo, Initialize
 use Rattle.calls.specs.declared.Command.{Command}
 use Rattle.calls.specs.declared.Command.the-variants.{Write, Move, Controls, Loads, Unlisted}
 use Rattle.calls.specs.Commands.{decode, traitsOf}
+use Rattle.calls.specs.Reset.{Kept}
 use Rattle.calls.specs.Calls.{Call, command, compose, release}
+use Rattle.calls.specs.Start.{startKept}
 use Rattle.calls.specs.Lists.{Deed, deedOf}
 use Rattle.state.specs.Host.{Called, Held, heldOf, callOn}
 use Rattle.trestlepip.specs.Host.{numberIn, readyIn}
@@ -33,7 +35,7 @@ dueBy (command i) answer = traitsOf (decode (i .byte)) .resets && readyIn answer
 dueBy (compose n out) answer = false
 dueBy release answer = false
 
--- The data-check switch after a call that counts, which found it at b: Block and Allow set it.
+-- What a reset keeps, after a call that counts, which found it at k: Block and Allow set the data-check switch.
 unfoldable pub controlSwitch : Control → Bool → Bool
 controlSwitch NoOp b = b
 controlSwitch SenseIo b = b
@@ -50,10 +52,10 @@ commandSwitch (Controls c) b = controlSwitch c b
 commandSwitch (Loads l) b = b
 commandSwitch Unlisted b = b
 
-unfoldable pub switchBy : Call → Bool → Bool
-switchBy (command i) b = commandSwitch (decode (i .byte)) b
-switchBy (compose n out) b = b
-switchBy release b = b
+unfoldable pub keptBy : Call → Kept → Kept
+keptBy (command i) k = record { blocked = commandSwitch (decode (i .byte)) (k .blocked) }
+keptBy (compose n out) k = k
+keptBy release k = k
 
 -- A call that counts: the deed, its packed answer, and what the host holds right after it.
 pub record Noted : Type 0 where
@@ -61,11 +63,11 @@ pub record Noted : Type 0 where
   pub answer : ℕ
   pub after : Held
 
--- The notes: the switch at the latest finished reset, and the calls that count since, the latest first; the switch now, and whether a reset is due.
+-- The notes: what the latest finished reset kept, and the calls that count since, the latest first; what a reset would keep now, and whether one is due.
 pub record Notes : Type 0 where
-  pub switch : Bool
+  pub kept : Kept
   pub calls : List Noted
-  pub blocked : Bool
+  pub keeps : Kept
   pub due : Bool
 
 abbrev pub deedsIn : List Noted → List Deed
@@ -76,10 +78,11 @@ unfoldable pub noteCall : Notes → Call → Called → Notes
 noteCall n c k =
     let counts = countsBy c (k .answer) in
     let finishes = finishesBy (n .due) c (k .answer) in
+    let keeps = cond counts (keptBy c (n .keeps)) (n .keeps) in
     record {
-      switch = cond finishes (n .blocked) (n .switch);
+      kept = cond finishes keeps (n .kept);
       calls = cond finishes [] (cond counts (record { deed = deedOf c; answer = k .answer; after = heldOf k } ∷ n .calls) (n .calls));
-      blocked = cond counts (switchBy c (n .blocked)) (n .blocked);
+      keeps = keeps;
       due = cond counts (dueBy c (k .answer)) (n .due);
     }
 
@@ -89,4 +92,4 @@ notesOver h n (c ∷ cs) = let k = callOn h c in notesOver (heldOf k) (noteCall 
 
 -- A list of calls noted, from what an accepted Start left: a start counts as a finished reset, and allows data checks.
 unfoldable pub notes : Held → List Call → Notes
-notes h cs = notesOver h (record { switch = false; calls = []; blocked = false; due = false }) cs
+notes h cs = notesOver h (record { kept = startKept; calls = []; keeps = startKept; due = false }) cs

@@ -42,7 +42,7 @@ put-small-requires-3 c κs = let s = c .before .before .before .before .before .
 
 returns : tie.Need-returns
 unfolding doControl
-returns c = λ p. let s = c .before .before .before .before .before .before .before .before .before .before in rw (c .before .before .before .before .enum-told .given .1) (left-alone (s .args .state .now) (c .before .before .decode .ensures) (s .args .reply .now) (stores s p) (λ k. doControl k NoOp) (c .before .no-op .ensures _ _) (omega (arith, c .before .before .before .before .before .before .before .before .slice-known2 .given 1)) (s .pre .bytes .read) refl refl)
+returns c = λ p. let s = c .before .before .before .before .before .before .before .before .before .before in rw (c .before .before .before .before .enum-told .given .1) (left-alone (s .args .state .now) (c .before .before .decode .ensures) (s .args .reply .now) (stores s p) (λ k. doControl k NoOp) (c .before .no-op .ensures _ _) (λ n. omega (arith, c .before .before .before .before .before .before .before .before .slice-known2 .given n)) (s .pre .bytes .read) refl refl)
 
 returns-2 : tie.Need-returns-2
 returns-2 c = λ p. let s = c .before .before .before .before .before .before .before .before .before .before .before .before .before .before .before .before in rw (c .before .before .before .before .before .before .before .before .before .before .enum-told2 .given .1) (put-back (s .args .state .now) (c .before .before .before .before .before .before .before .before .decode2 .ensures) (s .args .reply .now) (stores s p) (λ k. doControl k SenseIo) (c .before .before .before .before .before .before .sense-io .ensures _) (c .before .before .put-sheet .ensures .0) (c .before .before .put-sheet .ensures .1))

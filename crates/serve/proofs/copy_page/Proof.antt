@@ -70,14 +70,14 @@ returns : tie.Need-returns
 unfolding perform doCompose
 returns c = let s = c .before .before .before .before .before .before .before .before .before .before .before .before .before .before .before in let x = c .before .before .before .before .before .before .before in
     left-alone (s .args .state .now) (c .before .before .before .before .before .before .before .before .before .decode .ensures) (s .args .out .now) (stores s) (λ k. doCompose k (s .args .copy)) (c .before .before .before .compose .ensures _)
-    (omega (arith, c .before .before .before .before .before .before .before .before .before .before .before .before .before .shared-slice-known .given 1)) (s .pre .bytes .read) refl refl
+    (λ n. omega (arith, c .before .before .before .before .before .before .before .before .before .before .before .before .before .shared-slice-known .given n)) (s .pre .bytes .read) refl refl
     ∙ ap shown (step-accepted (world s) (call s) (given x) (sym (c .before .before .before .before .before .before .is-accepted .ensures) ∙ c .before .before .before .before .before .if1 .taken) refl)
 
 returns-2 : tie.Need-returns-2
 returns-2 c = let s = c .before .before .before .before .before .before .before .before .before .before .before .before in let x = c .before .before .before .before in
     let o = step-refused (world s) (call s) (given x) 0 (sym (c .before .before .before .is-accepted .ensures) ∙ c .before .before .if1 .left) refl refl in
     left-alone (s .args .state .now) (c .before .before .before .before .before .before .decode .ensures) (s .args .out .now) (stores s) (λ k. refused k 0 (x .compose-refusal .result)) (c .before .refuse .ensures _ _)
-    (omega (arith, c .before .before .before .before .before .before .before .before .before .before .shared-slice-known .given 1)) (s .pre .bytes .read)
+    (λ n. omega (arith, c .before .before .before .before .before .before .before .before .before .before .shared-slice-known .given n)) (s .pre .bytes .read)
     (ap (λ (z : Outcome). z .world) o ∙ compose-keeps (world s) (s .args .copy) (s .args .out .now)) refl
     ∙ ap shown o
 
