@@ -5,8 +5,8 @@
  * else: no memory of its own, no global, no file. `trestlepip_start` fills the buffers; each later call gets them as the one before left them.
  *
  * Below stand, in this order: a whole program as an example; the sizes of the buffers; the command bytes; the numbers and causes that an answer may
- * have, and its fields; the bits of status and sense; what a cell of a page is; the places in the state; the four calls, each with its refusals;
- * and trestlepip_printable_lines, which says how many lines a copy has. Elsewhere stand:
+ * have, and its fields; the bits of status and sense; what a cell of a page is; the places in the state; the calls, each with its refusals; what
+ * reads the page counters; and trestlepip_printable_lines, which says how many lines a copy has. Elsewhere stand:
  *   - docs/NUMBERS.md, the programmer's card: what a program does about each number, cause and check;
  *   - docs/RECORDS.md: the record of each load byte by byte, with an example;
  *   - docs/STATE.md: the state byte by byte, with the range of each field;
@@ -96,7 +96,7 @@ extern "C" {
 #endif
 
 /* Sizes of the lent buffers; a buffer of another size is refused with TRESTLEPIP_BAD_STORE. docs/STATE.md has the layout of the state. */
-#define TRESTLEPIP_STATE_BYTES 184
+#define TRESTLEPIP_STATE_BYTES 192
 #define TRESTLEPIP_PAGE_BYTES 26928
 #define TRESTLEPIP_LEGEND_BYTES 8192
 #define TRESTLEPIP_TABLE_BYTES 1024
@@ -139,18 +139,20 @@ enum trestlepip_commands {
 
 /* The number of an answer: accepted, or the refusal. */
 enum trestlepip_numbers {
-    TRESTLEPIP_ACCEPTED = 0,     /* accepted */
-    TRESTLEPIP_NOT_LISTED = 1,   /* the command byte is not listed */
-    TRESTLEPIP_BAD_RECORD = 2,   /* a write's record is empty or over 204 bytes, or a load's over 8,192 */
-    TRESTLEPIP_LOAD_CHECK = 3,   /* the record of a load is faulty */
-    TRESTLEPIP_PAGE_WAITING = 4, /* a completed page waits for its release */
-    TRESTLEPIP_PAGE_STARTED = 5, /* a load came on a started page */
-    TRESTLEPIP_NO_PAGE = 6,      /* no completed page waits */
-    TRESTLEPIP_BAD_INDEX = 7,    /* there is no copy with this index */
-    TRESTLEPIP_TOO_SHORT = 8,    /* the output or the reply buffer is too short */
-    TRESTLEPIP_BAD_STORE = 9,    /* a lent buffer has the wrong size, or holds what no printer leaves there */
-    TRESTLEPIP_BAD_FORM = 10,    /* the form length or a pitch is not listed */
-    TRESTLEPIP_TWO_PAGES = 11    /* one command would complete two pages */
+    TRESTLEPIP_ACCEPTED = 0,      /* accepted */
+    TRESTLEPIP_NOT_LISTED = 1,    /* the command byte is not listed */
+    TRESTLEPIP_BAD_RECORD = 2,    /* a write's record is empty or over 204 bytes, or a load's over 8,192 */
+    TRESTLEPIP_LOAD_CHECK = 3,    /* the record of a load is faulty */
+    TRESTLEPIP_PAGE_WAITING = 4,  /* a completed page waits for its release */
+    TRESTLEPIP_PAGE_STARTED = 5,  /* a load came on a started page */
+    TRESTLEPIP_NO_PAGE = 6,       /* no completed page waits */
+    TRESTLEPIP_BAD_INDEX = 7,     /* there is no copy with this index */
+    TRESTLEPIP_TOO_SHORT = 8,     /* the output or the reply buffer is too short */
+    TRESTLEPIP_BAD_STORE = 9,     /* a lent buffer has the wrong size, or holds what no printer leaves there */
+    TRESTLEPIP_BAD_FORM = 10,     /* the form length or a pitch is not listed */
+    TRESTLEPIP_TWO_PAGES = 11,    /* one command would complete two pages */
+    TRESTLEPIP_NONE_BETWEEN = 12, /* no page is between this station and the one before it */
+    TRESTLEPIP_MOST_BETWEEN = 13  /* 32,767 pages are released and not yet stacked */
 };
 
 /* The cause of a load check. */
@@ -180,7 +182,7 @@ static inline uint64_t trestlepip_field(uint64_t answer, unsigned low, unsigned 
 /* 0, or the refusal: one of enum trestlepip_numbers. */
 static inline unsigned trestlepip_number(uint64_t answer) { return (unsigned)trestlepip_field(answer, 0, 8); }
 
-/* The status byte that the channel sees; 00 from start, compose and release. */
+/* The status byte that the channel sees; 00 from every call but command. */
 static inline unsigned trestlepip_status(uint64_t answer) { return (unsigned)trestlepip_field(answer, 8, 8); }
 
 /* 1 if this very command completed a page, which now waits. */
@@ -278,6 +280,10 @@ enum trestlepip_places {
     TRESTLEPIP_AT_SENSE_0, TRESTLEPIP_AT_SENSE_1, TRESTLEPIP_AT_SENSE_2, TRESTLEPIP_AT_SENSE_22, TRESTLEPIP_AT_SENSE_23,
     TRESTLEPIP_AT_SEQUENCE, TRESTLEPIP_LAST_OF_SEQUENCE = TRESTLEPIP_AT_SEQUENCE + TRESTLEPIP_SEQUENCE_MOST - 1,
     TRESTLEPIP_AT_FCB, TRESTLEPIP_LAST_OF_FCB = TRESTLEPIP_AT_FCB + TRESTLEPIP_FCB_MOST - 1,
+    TRESTLEPIP_AT_CHANNEL_PAGE, TRESTLEPIP_LAST_OF_CHANNEL_PAGE, /* the page counters, high byte first */
+    TRESTLEPIP_AT_TRANSFER_PAGE, TRESTLEPIP_LAST_OF_TRANSFER_PAGE,
+    TRESTLEPIP_AT_FUSER_PAGE, TRESTLEPIP_LAST_OF_FUSER_PAGE,
+    TRESTLEPIP_AT_STACKER_PAGE, TRESTLEPIP_LAST_OF_STACKER_PAGE,
     TRESTLEPIP_AFTER_ALL,
     TRESTLEPIP_SENSE_KEPT = TRESTLEPIP_AT_SEQUENCE - TRESTLEPIP_AT_SENSE_0
 };
@@ -313,10 +319,52 @@ uint64_t trestlepip_compose(uint32_t copy,
         const uint8_t *state, size_t state_len, const uint8_t *page, size_t page_len,
         const uint8_t *legends, size_t legends_len, const uint8_t *tables, size_t tables_len);
 
-/* Release: the page that waits is done with; a reset that Initialize left due is done. Refusals, in this order: 9, 6. */
+/*
+ * Release: the page that waits is done with, and counted into the channel's page counter; a reset that Initialize left due is done. Refusals, in this
+ * order: 9, 6, 13. With 13 the page still waits: report sheets stacked, or restart, and release it again.
+ */
 uint64_t trestlepip_release(
         uint8_t *state, size_t state_len, uint8_t *page, size_t page_len,
         uint8_t *legends, size_t legends_len, uint8_t *tables, size_t tables_len);
+
+/*
+ * The page counters, one for each place of the paper's way: channel, transfer, fuser, stacker. Each is two bytes, and goes on from FFFF to 0000. Start
+ * puts all at zero; a Release counts into the channel's; Initialize and its reset leave them. A page is counted once, whatever its copies.
+ */
+static inline unsigned trestlepip_page_counter(const uint8_t *state, size_t at) { return state[at] * 256u + state[at + 1]; }
+static inline unsigned trestlepip_channel_page(const uint8_t *state) { return trestlepip_page_counter(state, TRESTLEPIP_AT_CHANNEL_PAGE); }
+static inline unsigned trestlepip_transfer_page(const uint8_t *state) { return trestlepip_page_counter(state, TRESTLEPIP_AT_TRANSFER_PAGE); }
+static inline unsigned trestlepip_fuser_page(const uint8_t *state) { return trestlepip_page_counter(state, TRESTLEPIP_AT_FUSER_PAGE); }
+static inline unsigned trestlepip_stacker_page(const uint8_t *state) { return trestlepip_page_counter(state, TRESTLEPIP_AT_STACKER_PAGE); }
+
+/* The pages between two counters, of which `later` is the one further on. Between channel and stacker there are at most TRESTLEPIP_MOST_PAGES. */
+enum trestlepip_page_counts { TRESTLEPIP_MOST_PAGES = 32767 };
+static inline unsigned trestlepip_pages_between(unsigned counter, unsigned later) { return (counter - later) & 0xFFFFu; }
+
+/*
+ * A page passed this station: its counter goes on by one. Refusals, in this order: 9, 12. No page can pass a station that has not passed the one before
+ * it: with 12 the counter equals that one's (the channel's, for transfer).
+ */
+uint64_t trestlepip_transferred(
+        uint8_t *state, size_t state_len, const uint8_t *page, size_t page_len,
+        const uint8_t *legends, size_t legends_len, const uint8_t *tables, size_t tables_len);
+uint64_t trestlepip_fused(
+        uint8_t *state, size_t state_len, const uint8_t *page, size_t page_len,
+        const uint8_t *legends, size_t legends_len, const uint8_t *tables, size_t tables_len);
+uint64_t trestlepip_stacked(
+        uint8_t *state, size_t state_len, const uint8_t *page, size_t page_len,
+        const uint8_t *legends, size_t legends_len, const uint8_t *tables, size_t tables_len);
+
+/*
+ * Cancel: the pages that have not passed transfer are given up; the channel's counter goes back to transfer's. Restart: so are all that are not
+ * stacked; the counters of channel, transfer and fuser go back to the stacker's. Neither touches the page, waiting or started. Refusal: 9.
+ */
+uint64_t trestlepip_cancel(
+        uint8_t *state, size_t state_len, const uint8_t *page, size_t page_len,
+        const uint8_t *legends, size_t legends_len, const uint8_t *tables, size_t tables_len);
+uint64_t trestlepip_restart(
+        uint8_t *state, size_t state_len, const uint8_t *page, size_t page_len,
+        const uint8_t *legends, size_t legends_len, const uint8_t *tables, size_t tables_len);
 
 /*
  * The rest is trestlepip_printable_lines, which stands last, and what it is made of. Each part judges some fields of a state as docs/STATE.md says, so
@@ -355,6 +403,17 @@ static inline int trestlepip_flags_agree(const uint8_t *state)
     return state[TRESTLEPIP_AT_BLOCK] <= 1
         && state[TRESTLEPIP_AT_LOADED] == 1 && trestlepip_at_most(state + TRESTLEPIP_AT_LOADED, TRESTLEPIP_SLOTS, 1)
         && waiting <= 1 && state[TRESTLEPIP_AT_WRITTEN] <= 1 - waiting && state[TRESTLEPIP_AT_RESET_DUE] <= waiting;
+}
+
+/* Whether calls can lead to these counters: seen from the stacker's, none is ahead of the one before it, and the channel's is ahead by no more than
+   TRESTLEPIP_MOST_PAGES. */
+static inline int trestlepip_counters_are_reachable(const uint8_t *state)
+{
+    unsigned stacker = trestlepip_stacker_page(state);
+    unsigned fuser = trestlepip_pages_between(trestlepip_fuser_page(state), stacker);
+    unsigned transfer = trestlepip_pages_between(trestlepip_transfer_page(state), stacker);
+    unsigned channel = trestlepip_pages_between(trestlepip_channel_page(state), stacker);
+    return fuser <= transfer && transfer <= channel && channel <= TRESTLEPIP_MOST_PAGES;
 }
 
 /* Whether the load takes these pairs; 00 follows them. */
@@ -413,7 +472,7 @@ static inline unsigned trestlepip_printable_lines(const uint8_t *state)
     int good = trestlepip_form_is_listed(form) && trestlepip_pitches_are_listed(state + TRESTLEPIP_AT_PITCH) && trestlepip_flags_agree(state)
         && trestlepip_sequence_is_good(state + TRESTLEPIP_AT_SEQUENCE, state[TRESTLEPIP_AT_SEQUENCE_COUNT])
         && state[TRESTLEPIP_AT_SELECTED] < TRESTLEPIP_SLOTS && state[TRESTLEPIP_AT_COPY_NUMBER] != 0
-        && state[TRESTLEPIP_AT_LINE] >= 1 && state[TRESTLEPIP_AT_LINE] <= lines;
+        && state[TRESTLEPIP_AT_LINE] >= 1 && state[TRESTLEPIP_AT_LINE] <= lines && trestlepip_counters_are_reachable(state);
     return good ? lines : 0;
 }
 

@@ -8,6 +8,7 @@ typedef __typeof__(trestlepip_start) start_call;
 typedef __typeof__(trestlepip_command) command_call;
 typedef __typeof__(trestlepip_compose) compose_call;
 typedef __typeof__(trestlepip_release) release_call;
+typedef __typeof__(trestlepip_transferred) tally_call; /* and of fused, stacked, cancel and restart */
 
 /* The calls of one program. */
 struct exports {
@@ -15,9 +16,12 @@ struct exports {
     command_call *command;
     compose_call *compose;
     release_call *release;
+    tally_call *transferred, *fused, *stacked, *cancel, *restart;
 };
 
 /* Those whose names begin so. */
-#define EXPORTS(name) { name##_start, name##_command, name##_compose, name##_release }
+#define EXPORTS(name) \
+    { name##_start, name##_command, name##_compose, name##_release, \
+      name##_transferred, name##_fused, name##_stacked, name##_cancel, name##_restart }
 
 #endif
