@@ -1,0 +1,3 @@
+mod Changes
+mod InPlace
+mod Lent
