@@ -21,7 +21,7 @@ impl Stores {
     pub const TABLE_BYTES: usize = 4 * Stores::SLOT_BYTES;
 }
 
-// The rows of the paper's table of numbers. Accepted, its row 0, is no refusal.
+// The rows of the paper's table of numbers, and T-02's two. Accepted, row 0, is no refusal.
 pub enum Refusal {
     Accepted,
     NotListed,
@@ -35,6 +35,8 @@ pub enum Refusal {
     BadStore,
     BadForm,
     TwoPages,
+    NoneBetween,
+    MostBetween,
 }
 
 // Which cause of its load's order a load check found first.
@@ -278,6 +280,8 @@ impl Refusal {
             Refusal::BadStore => row_with(9, 0, SenseStep::Keep),
             Refusal::BadForm => row_with(10, 0, SenseStep::NoSense),
             Refusal::TwoPages => row_with(11, 0, SenseStep::Keep),
+            Refusal::NoneBetween => row_with(12, 0, SenseStep::Keep),
+            Refusal::MostBetween => row_with(13, 0, SenseStep::Keep),
         }
     }
 
