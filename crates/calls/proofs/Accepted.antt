@@ -16,15 +16,17 @@ use Rattle.numbers.specs.declared.Refusal.the-variants.{Accepted, NotListed, Ba
 use Rattle.numbers.specs.Numbers.{rowOf, numberOf, isAccepted, checked}
 use Rattle.numbers.proofs.Laws.{accepted-is, not-accepted, passed-check, goes-on}
 use Rattle.copies.specs.Copies.{copyCount}
+use Rattle.counters.specs.declared.Tally.{Tally}
+use Rattle.counters.specs.Counters.{noneBetween}
 use Rattle.calls.specs.declared.State.{State}
 use Rattle.calls.specs.declared.Command.{Command}
 use Rattle.calls.specs.declared.Command.the-variants.{Write, Move, Controls, Loads, Unlisted}
 use Rattle.calls.specs.Core.{Stores, Core, P}
 use Rattle.calls.specs.Commands.{Issued, decode}
 use Rattle.calls.specs.Contents.{coreOk}
-use Rattle.calls.specs.Calls.{command, badRecord, checkOf, commandTests, composeTests, refusalOf}
+use Rattle.calls.specs.Calls.{command, release, tally, badRecord, checkOf, commandTests, composeTests, refusalOf}
 use Rattle.calls.specs.Start.{Asked, startRefusal, startWorld, startOutcome}
-use Rattle.calls.specs.Premises.{Allowed, Composable, Startable}
+use Rattle.calls.specs.Premises.{Allowed, Composable, Releasable, Startable}
 
 pub allowed-by : (k : Core) (c : Command) (i : Issued) → firstOr Accepted (commandTests k c i) ≡ Accepted → Allowed k c i
 unfolding isAccepted rowOf
@@ -82,6 +84,18 @@ composable k n out e =
       high = ltb-false (copyCount (k .state .copies)) n (or-right (eqb n 0) _ (h₃ .0));
       room = ltb-false (length out) (lineBytes * P (k .state)) (h₄ .0);
     }
+
+pub releasable : (k : Core) → isAccepted (refusalOf k release) ≡ true → Releasable k
+unfolding refusalOf isAccepted rowOf
+releasable k e =
+    let h₁ = passed _ _ (not-accepted refl) (accepted-is _ e) in
+    let h₂ = passed _ _ (not-accepted refl) (h₁ .1) in
+    let h₃ = passed _ _ (not-accepted refl) (h₂ .1) in
+    record { ok = not-false (coreOk k) (h₁ .0); waits = not-false _ (h₂ .0); room = h₃ .0 }
+
+pub tallyable : (k : Core) (t : Tally) → isAccepted (refusalOf k (tally t)) ≡ true → noneBetween t (k .state .counters) ≡ false
+unfolding refusalOf isAccepted rowOf
+tallyable k t e = passed _ _ (not-accepted refl) (passed _ _ (not-accepted refl) (accepted-is _ e) .1) .0
 
 pub startable : (a : Asked) (m : Stores) → isAccepted (startRefusal a m) ≡ true → Startable a m
 unfolding startRefusal isAccepted rowOf

@@ -29,7 +29,7 @@ use Rattle.calls.specs.Core.{Core, World, started}
 use Rattle.calls.specs.Commands.{Issued, decode, controlTraits, traitsOf, isUnlisted}
 use Rattle.calls.specs.Reset.{blankSheet, resetState, reset, senseBytes}
 use Rattle.calls.specs.Effects.{Effect, nothing, refused, done, movedSheet, moveOf, standing, movedCore, writtenSheet, written, writeCauses, loaded, atLine1, loadCauses, quietly, doMove, doWrite, doLoad, completing, doControl, doCommand}
-use Rattle.calls.specs.Calls.{Call, command, compose, release, movement, refusalOf, doCompose, doRelease, emptied, released, perform, effect, step}
+use Rattle.calls.specs.Calls.{Call, command, compose, release, tally, movement, refusalOf, doCompose, doRelease, emptied, released, tallying, doTally, perform, effect, step}
 use Rattle.calls.specs.Premises.{Free}
 use Rattle.calls.proofs.Accepted.{allowed}
 use Rattle.calls.proofs.Refused.{accepted-effect, by-outcome}
@@ -45,11 +45,13 @@ abbrev pub isCommand : Call → Bool
 isCommand (command i) = true
 isCommand (compose n out) = false
 isCommand release = false
+isCommand (tally t) = false
 
 abbrev pub isCompose : Call → Bool
 isCompose (command i) = false
 isCompose (compose n out) = true
 isCompose release = false
+isCompose (tally t) = false
 
 -- After a command that found no page waiting, one waits exactly if it completed one.
 abbrev Waits : Core → Moved → Core → Type 0
@@ -125,10 +127,11 @@ names-shape (sets k′ q w e) = ap (λ (e : Effect). e .answer .refusal) e
 names-shape (quiet s f q m e) = ap (λ (e : Effect). e .answer .refusal) e
 
 names-perform : (k : Core) (c : Call) → isAccepted (refusalOf k c) ≡ true → perform k c .answer .refusal ≡ Accepted
-unfolding perform doCompose doRelease
+unfolding perform doCompose doRelease doTally
 names-perform k (command i) e = names-shape (performed k i e)
 names-perform k (compose n out) e = refl
 names-perform k release e = refl
+names-perform k (tally t) e = refl
 
 pub names : (w : World) (c : Call) → step w c .answer .refusal ≡ refusalOf (w .core) c
 unfolding step refused
@@ -156,10 +159,11 @@ lines-of-no-move k (Loads l) e = refl
 lines-of-no-move k Unlisted e = refl
 
 pub lines-of-others : (k : Core) (c : Call) → isCommand c ≡ false → effect k c .answer .lines ≡ 0
-unfolding perform doCompose doRelease refused
+unfolding perform doCompose doRelease doTally refused
 lines-of-others k (command i) e = absurd (true≢false e)
 lines-of-others k (compose n out) e = by-outcome (λ (x : Effect). x .answer .lines ≡ 0) k (compose n out) (λ a. refl) (λ a. refl)
 lines-of-others k release e = by-outcome (λ (x : Effect). x .answer .lines ≡ 0) k release (λ a. refl) (λ a. refl)
+lines-of-others k (tally t) e = by-outcome (λ (x : Effect). x .answer .lines ≡ 0) k (tally t) (λ a. refl) (λ a. refl)
 
 -- Copy number and overlay mark are 0 in every answer except that of an accepted Compose.
 abbrev NoCopy : Effect → Type 0
@@ -171,10 +175,11 @@ copy-shape (sets k′ q w e) = rw e (refl, refl)
 copy-shape (quiet s f q m e) = rw e (refl, refl)
 
 pub no-copy : (k : Core) (c : Call) → (isCompose c && isAccepted (refusalOf k c)) ≡ false → NoCopy (effect k c)
-unfolding perform doRelease refused
+unfolding perform doRelease doTally refused
 no-copy k (command i) e = by-outcome NoCopy k (command i) (λ a. copy-shape (performed k i a)) (λ a. (refl, refl))
 no-copy k (compose n out) e = by-outcome NoCopy k (compose n out) (λ a. absurd (true≢false (sym a ∙ e))) (λ a. (refl, refl))
 no-copy k release e = by-outcome NoCopy k release (λ a. (refl, refl)) (λ a. (refl, refl))
+no-copy k (tally t) e = by-outcome NoCopy k (tally t) (λ a. (refl, refl)) (λ a. (refl, refl))
 
 -- Accepted commands except No-Op and Sense set the sense anew.
 anew-shape : {k : Core} {c : Command} {i : Issued} {e : Effect} → Shape k c i e → traitsOf c .quiet ≡ false → isAnew (e .sense) ≡ true
@@ -210,10 +215,11 @@ unfolding released emptied reset resetState blankSheet
 released-free k = cond-has Free (k .state .sheet .due) (λ t. refl) (λ t. refl)
 
 ready-perform : (k : Core) (c : Call) → isAccepted (refusalOf k c) ≡ true → ReadyHolds k (perform k c)
-unfolding perform doCompose doRelease
+unfolding perform doCompose doRelease doTally tallying
 ready-perform k (command i) e = ready-shape (performed k i e) (allowed k i e .free)
 ready-perform k (compose n out) e = not-both (k .state .sheet .waiting)
 ready-perform k release e = rw (released-free k) (sym (and-false (not (k .state .sheet .waiting))))
+ready-perform k (tally t) e = not-both (k .state .sheet .waiting)
 
 pub ready-exactly : (k : Core) (c : Call) → ReadyHolds k (effect k c)
 unfolding refused

@@ -1,4 +1,4 @@
--- What every call leaves as it was. All that a call may do to the core is one of eight changes, or several of them in turn: what each of them
+-- What every call leaves as it was. All that a call may do to the core is one of ten changes, or several of them in turn: what each of them
 -- preserves, every list of calls preserves. The one case analysis over the commands for all invariants stands here.
 use Prim.Native.Nat.{ℕ, _≤_}
 use mathlib.Core.Path.{_≡_, refl, sym, ap, _∙_}
@@ -16,6 +16,8 @@ use Rattle.numbers.specs.Numbers.{rowOf, isAccepted}
 use Rattle.movement.specs.declared.Moved.{Moved}
 use Rattle.movement.specs.Movement.{toTop}
 use Rattle.movement.proofs.MovementLaws.{Went}
+use Rattle.counters.specs.declared.Tally.{Tally}
+use Rattle.counters.specs.Counters.{noneBetween, mostBetween}
 use Rattle.calls.specs.declared.Load.{Load}
 use Rattle.calls.specs.declared.Control.the-variants.{NoOp, SenseIo, Initialize, Clear, Block, Allow, Select}
 use Rattle.calls.specs.declared.Command.{Command}
@@ -25,19 +27,19 @@ use Rattle.calls.specs.Commands.{Issued, codes, lookUp, skips, decode, c
 use Rattle.calls.specs.Contents.{coreOk}
 use Rattle.calls.specs.Reset.{blankSheet, noCells, reset}
 use Rattle.calls.specs.Effects.{Effect, refused, done, movedCore, moveOf, doMove, writtenSheet, written, doWrite, loadCheck, slotSelected, loaded, doLoad, completing, doControl, doCommand}
-use Rattle.calls.specs.Calls.{Call, command, compose, release, checkOf, refusalOf, doCompose, emptied, released, doRelease, perform, effect, step}
+use Rattle.calls.specs.Calls.{Call, command, compose, release, tally, checkOf, refusalOf, doCompose, pageCounted, emptied, released, doRelease, tallying, doTally, perform, effect, step}
 use Rattle.calls.specs.Premises.{Good, Allowed, Free}
 use Rattle.calls.specs.Lists.{worldAfter}
-use Rattle.calls.proofs.Accepted.{allowed}
+use Rattle.calls.proofs.Accepted.{allowed, releasable, tallyable}
 use Rattle.calls.proofs.Refused.{bad-store, by-outcome}
 use Rattle.calls.proofs.Answers.{was-free}
-use Rattle.calls.proofs.Good.{good, good-write, good-empty, move-went}
+use Rattle.calls.proofs.Good.{good, good-write, good-count, good-empty, move-went}
 
 -- A reset finds nothing on the page: it is not started, or was emptied just before.
 abbrev pub Unused : Core → Type 0
 Unused k = (started (k .state .sheet) ≡ false) ⊎ (k .stores .page ≡ noCells)
 
--- Q survives each of the eight changes, which come with what holds where they are done.
+-- Q survives each of the ten changes, which come with what holds where they are done.
 pub record Survives (Q : Core → Type 0) : Type 0 where
   pub write : {k : Core} (r : List ℕ) → Good k → Free k → length r ≤ lineWidth → Q k → Q (written k r)
   pub move : {k : Core} (m : Moved) → Good k → Free k → Went (P (k .state)) (k .state .sheet .line) m → Q k → Q (movedCore false k m)
@@ -47,7 +49,9 @@ pub record Survives (Q : Core → Type 0) : Type 0 where
   pub select : {k : Core} (n : ℕ) → Good k → n ≤ 3 → Q k → Q (withState k (withSlots (k .state) (slotSelected (k .state .slots) n)))
   pub load : {k : Core} (l : Load) (r : List ℕ) → Good k → started (k .state .sheet) ≡ false → loadCheck (k .state) l r ≡ Sound → length r ≤ legendSize
       → Q k → Q (loaded k l r)
+  pub count : {k : Core} → Good k → mostBetween (k .state .counters) ≡ false → Q k → Q (pageCounted k)
   pub empty : {k : Core} → Good k → Q k → Q (emptied k)
+  pub tally : {k : Core} (t : Tally) → Good k → noneBetween t (k .state .counters) ≡ false → Q k → Q (tallying k t)
 
 -- Select names one of four: a computed test of the table of codes.
 small : Command → Bool
@@ -108,16 +112,19 @@ module _ {Q : Core → Type 0} (q : Survives Q) where
   by-command k (Loads l) i s a g h = q .load l (i .sent) g (a .unstarted) (a .sound) (ltb-false legendSize (length (i .sent)) (a .sized)) h
   by-command k Unlisted i s a g h = h
 
-  by-release : {k : Core} → Good k → Q k → Q (released k)
+  by-release : {k : Core} → Good k → mostBetween (k .state .counters) ≡ false → Q k → Q (released k)
   unfolding released emptied blankSheet
-  by-release {k} g h =
-      cond-has Q (k .state .sheet .due) (λ t. q .reset (good-empty g) refl (inr refl) (q .empty g h)) (λ t. q .empty g h)
+  by-release {k} g room h =
+      let g′ = good-count g room in
+      let h′ = q .empty g′ (q .count g room h) in
+      cond-has Q (k .state .sheet .due) (λ t. q .reset (good-empty g′) refl (inr refl) h′) (λ t. h′)
 
   by-perform : (k : Core) (c : Call) → isAccepted (refusalOf k c) ≡ true → Q k → Q (perform k c .core)
-  unfolding perform doCompose doRelease
+  unfolding perform doCompose doRelease doTally
   by-perform k (command i) e h = by-command k (decode (i .byte)) i (decode-small (i .byte)) (allowed k i e) (accepted-good k (command i) e) h
   by-perform k (compose n out) e h = h
-  by-perform k release e h = by-release (accepted-good k release e) h
+  by-perform k release e h = by-release (accepted-good k release e) (releasable k e .room) h
+  by-perform k (tally t) e h = q .tally t (accepted-good k (tally t) e) (tallyable k t e) h
 
   -- One call, and a list of calls.
   pub preserved : (k : Core) (c : Call) → Q k → Q (effect k c .core)

@@ -12,7 +12,8 @@ use Rattle.form.specs.Form.{formLengths, pitchesListed, pitchesOk, formOk, unit
 use Rattle.line.specs.Line.{startTable, startTables, startSlots, slotsInRange}
 use Rattle.copies.specs.Copies.{pairSize, pairsOf, copiesOf, sequenceCheck, startCopies, copiesInRange}
 use Rattle.legends.specs.Legends.{badHead, cut, segments, legendCheck, storedSegments, legendsOk, noLegends}
-use Rattle.calls.specs.Core.{Stores, Core, sizesOk, withState, withPage, withLegends, withTables, withForms, withSlots, withCopies, withSheet, linesNow}
+use Rattle.counters.specs.Counters.{counters, countersOk}
+use Rattle.calls.specs.Core.{Stores, Core, sizesOk, withState, withPage, withLegends, withTables, withForms, withSlots, withCopies, withSheet, withCounters, linesNow}
 use Rattle.calls.specs.Commands.{codes, lookUp, decode, isUnlisted}
 use Rattle.calls.specs.Contents.{lineOk, rangesOk, dueOk, writtenOk, clauses, coreOk}
 use Rattle.calls.specs.Reset.{blankSheet, noCells, resetState, resetStores, fresh}
@@ -39,6 +40,9 @@ with-copies ps n r = withState k84 (withCopies (k84 .state) (record { pairs = ps
 
 abbrev with-legends : List ℕ → Core
 with-legends l = withLegends k84 (padded legendSize l)
+
+abbrev with-counters : ℕ → ℕ → ℕ → ℕ → Core
+with-counters c t f s = withState k84 (withCounters (k84 .state) (counters c t f s))
 
 abbrev fcb84 : List ℕ
 fcb84 = k84 .state .forms .fcb
@@ -81,10 +85,12 @@ broken =
     ∷ breaks 6 (with-legends (1 ∷ 1 ∷ 1 ∷ 1 ∷ 0xCD ∷ 1 ∷ 0 ∷ [])) ∷ breaks 6 (with-legends (full 39 ++ 1 ∷ [])) ∷ breaks 6 (with-legends (full 38 ++ 1 ∷ 1 ∷ 1 ∷ 1 ∷ 1 ∷ 0xCD ∷ []))
     -- a byte other than 00 after them
     ∷ breaks 6 (with-legends (0 ∷ 1 ∷ [])) ∷ breaks 6 (with-legends (1 ∷ 1 ∷ 1 ∷ 1 ∷ 1 ∷ 1 ∷ 0 ∷ 0 ∷ 1 ∷ []))
+    -- counters that no calls lead to: a page ahead of transfer, of fuser, of stacker; one too many out; three bytes
+    ∷ breaks 7 (with-counters 5 6 5 5) ∷ breaks 7 (with-counters 6 5 6 5) ∷ breaks 7 (with-counters 5 5 5 6) ∷ breaks 7 (with-counters 0 0 0 0x8000) ∷ breaks 7 (with-counters 0x10000 0 0 0)
     ∷ []
 
 -- Contents that are not on the list: a page that waits with the form at any line, a form at 8 lines per inch, all copies, full legends,
--- any cell and table bytes.
+-- any cell and table bytes, counters before and after the wrap and with as many pages out as there may be.
 unfoldable pub unbroken : List Core
 unbroken =
     k84
@@ -92,12 +98,13 @@ unbroken =
     ∷ with-fcb (padded fcbSize (replicate 28 0x10)) 28 ∷ with-slots true 3 ∷ with-copies (255 ∷ 1 ∷ zeros (pairSize - 2)) 2 255
     ∷ withPage k84 (replicate pageSize 0xFF) ∷ withTables k84 (replicate tableSize 0xFF)
     ∷ with-legends (1 ∷ 1 ∷ 1 ∷ 1 ∷ 0xCC ∷ 1 ∷ 0 ∷ []) ∷ with-legends (full 39)
+    ∷ with-counters 7 6 6 5 ∷ with-counters 1 0 0xFFFF 0xFFFE ∷ with-counters 0x7FFE 0x7FFE 0xFFFF 0xFFFF
     ∷ []
 
 -- Broken contents break the one clause, and no other; what is allowed breaks none.
-pub clauses-table : (map (λ b. clauses (b .core)) broken ≡ map (λ b. set (replicate 7 true) (b .clause) false) broken)
-    × (map clauses unbroken ≡ replicate 11 (replicate 7 true))
-unfolding broken unbroken flatten when firstOr every padded isSound formLengths pitchesListed pitchesOk formOk unitsOf runsFrom runs unitsTotal linesWhere printable edges fcbCheck layoutCheck layoutOf startFcb formsOf formsInRange startTable startTables startSlots slotsInRange pairsOf copiesOf sequenceCheck startCopies copiesInRange badHead cut segments legendCheck storedSegments legendsOk noLegends sizesOk linesNow lineOk rangesOk dueOk writtenOk blankSheet noCells resetState resetStores fresh
+pub clauses-table : (map (λ b. clauses (b .core)) broken ≡ map (λ b. set (replicate 8 true) (b .clause) false) broken)
+    × (map clauses unbroken ≡ replicate 14 (replicate 8 true))
+unfolding broken unbroken flatten when firstOr every padded isSound formLengths pitchesListed pitchesOk formOk unitsOf runsFrom runs unitsTotal linesWhere printable edges fcbCheck layoutCheck layoutOf startFcb formsOf formsInRange startTable startTables startSlots slotsInRange pairsOf copiesOf sequenceCheck startCopies copiesInRange badHead cut segments legendCheck storedSegments legendsOk noLegends sizesOk linesNow lineOk rangesOk dueOk writtenOk blankSheet noCells resetState resetStores fresh countersOk
 clauses-table = (refl, refl)
 
 -- All cell and table bytes are allowed. (So is all legend text: `stored-ok` holds whatever the text is translated to.)

@@ -30,16 +30,20 @@ use Rattle.copies.specs.Copies.{pairsOf, copiesOf, sequenceCheck, startCopies, 
 use Rattle.copies.proofs.CopiesLaws.{table-long, sequence-fits, number-some}
 use Rattle.legends.specs.Legends.{noLegends}
 use Rattle.legends.proofs.LegendLaws.{none-ok, stored-size, stored-ok}
+use Rattle.counters.specs.declared.Counters.{Counters}
+use Rattle.counters.specs.declared.Tally.{Tally}
+use Rattle.counters.specs.Counters.{noneBetween, mostBetween, countersOk}
+use Rattle.counters.proofs.CounterLaws.{reachable, reachable-ok, start-ok, counted-reachable, tallied-reachable}
 use Rattle.calls.specs.declared.Fixed.{Fixed}
 use Rattle.calls.specs.declared.Sheet.{Sheet}
 use Rattle.calls.specs.declared.State.{State}
 use Rattle.calls.specs.declared.Load.{Load}
 use Rattle.calls.specs.declared.Load.the-variants.{Fcb, TranslateTable, CopyModification, OverlaySequence, CopyNumber}
-use Rattle.calls.specs.Core.{Stores, Core, sizesOk, linesNow, P, laidOut, withState, withPage, withTables, withBlocked, withSlots, withCopies, withSheet}
+use Rattle.calls.specs.Core.{Stores, Core, sizesOk, linesNow, P, laidOut, withState, withPage, withTables, withBlocked, withSlots, withCopies, withSheet, withCounters}
 use Rattle.calls.specs.Contents.{lineOk, rangesOk, dueOk, writtenOk, coreOk}
 use Rattle.calls.specs.Reset.{blankSheet, noCells, Kept, keptOf, resetState, resetStores, reset, fresh}
 use Rattle.calls.specs.Effects.{movedSheet, movedCore, moveOf, writtenSheet, written, loadCheck, atLine1, slotLoaded, slotSelected, loaded}
-use Rattle.calls.specs.Calls.{emptied}
+use Rattle.calls.specs.Calls.{pageCounted, emptied, tallying}
 use Rattle.calls.specs.Start.{Asked, fixedBy, startRefusal, startKept, startWorld}
 use Rattle.calls.specs.Premises.{Sizes, FormsGood, CopiesGood, SheetGood, FixedGood, Good, Free}
 use Rattle.calls.proofs.Accepted.{startable}
@@ -70,13 +74,14 @@ good k e =
       copies = record { range = every-at 3 _ r; sound = sound-is _ (every-at 5 _ e) };
       sheet = record { low = leb-true _ _ (every-at 0 _ l); high = leb-true _ _ (every-at 1 _ l); due = every-at 2 _ e; written = every-at 3 _ e };
       legends = every-at 6 _ e;
+      counters = every-at 7 _ e;
     }
 
 pub ok : (k : Core) → Good k → coreOk k ≡ true
 unfolding coreOk rangesOk every isSound
 ok k g =
     let x = g .sheet in
-    rw (sizes-ok _ (g .sizes), g .fixed, g .forms .range, g .slots, g .copies .range, line-ok _ (k .state .sheet) (x .low) (x .high), x .due, x .written, g .forms .sound, g .copies .sound, g .legends)
+    rw (sizes-ok _ (g .sizes), g .fixed, g .forms .range, g .slots, g .copies .range, line-ok _ (k .state .sheet) (x .low) (x .high), x .due, x .written, g .forms .sound, g .copies .sound, g .legends, g .counters)
 
 -- Forms control that its load takes is kept as it was sent, and has a line 1.
 pub forms-now : (r : List ℕ) → fcbNow (formsOf r) ≡ r
@@ -101,7 +106,7 @@ unfolding noCells
 no-cells = length-replicate {A = ℕ} pageSize 0
 
 -- A reset leaves such contents, and so do Start and a finished reset.
-module _ (f : Fixed) (kept : Kept) (page : List ℕ) (e : FixedGood f) (size : length page ≡ pageSize) where
+module _ (f : Fixed) (kept : Kept) (page : List ℕ) (e : FixedGood f) (size : length page ≡ pageSize) (counters : countersOk (kept .counters) ≡ true) where
   pub reset-good : Good (record { state = resetState f kept; stores = resetStores page })
   unfolding resetState resetStores linesNow noLegends startSlots slotsInRange startCopies copiesInRange sequenceCheck pairsOf copiesOf every padded firstOr when
   reset-good =
@@ -114,11 +119,12 @@ module _ (f : Fixed) (kept : Kept) (page : List ℕ) (e : FixedGood f) (size : l
         copies = record { range = refl; sound = refl };
         sheet = blank-good _ 1 (lit≤ tt) (forms-line (f .length) (startFcb (f .length)) l (start-sound (f .length) l));
         legends = none-ok;
+        counters = counters;
       }
 
 pub start-good : (a : Asked) (m : Stores) → isAccepted (startRefusal a m) ≡ true → Good (startWorld a .core)
 unfolding startWorld fresh
-start-good a m e = reset-good (fixedBy a) startKept noCells (startable a m e .form) no-cells
+start-good a m e = reset-good (fixedBy a) startKept noCells (startable a m e .form) no-cells start-ok
 
 -- The printable lines of a form that is laid out are P.
 pub form-lines : (s : State) (w : Layout) → w ≡ laidOut s → w .lines ≡ P s
@@ -186,11 +192,24 @@ good-complete due g w = moved-good due toTop g w (lit≤ tt, omega (arith, g .sh
 
 pub good-reset : {k : Core} → Good k → Good (reset k)
 unfolding reset
-good-reset {k} g = reset-good (k .state .fixed) (keptOf (k .state)) (k .stores .page) (g .fixed) (g .sizes .page)
+good-reset {k} g = reset-good (k .state .fixed) (keptOf (k .state)) (k .stores .page) (g .fixed) (g .sizes .page) (g .counters)
 
 pub good-empty : {k : Core} → Good k → Good (emptied k)
 unfolding emptied
 good-empty {k} g = with-sheet _ noCells g (blank-good _ (k .state .sheet .line) (g .sheet .low) (g .sheet .high)) no-cells
+
+-- Other counters that calls can lead to: a page counted, and what a report, a cancel or a restart makes of them.
+with-counters : {k : Core} (c : Counters) → Good k → countersOk c ≡ true → Good (withState k (withCounters (k .state) c))
+unfolding linesNow
+with-counters c g h = search
+
+pub good-count : {k : Core} → Good k → mostBetween (k .state .counters) ≡ false → Good (pageCounted k)
+unfolding pageCounted
+good-count {k} g e = with-counters _ g (reachable-ok (counted-reachable (reachable (k .state .counters) (g .counters)) e))
+
+pub good-tally : {k : Core} (t : Tally) → Good k → noneBetween t (k .state .counters) ≡ false → Good (tallying k t)
+unfolding tallying
+good-tally {k} t g e = with-counters _ g (reachable-ok (tallied-reachable (reachable (k .state .counters) (g .counters)) t e))
 
 -- The switch, and another slot selected.
 pub good-block : {k : Core} (b : Bool) → Good k → Good (withState k (withBlocked (k .state) b))

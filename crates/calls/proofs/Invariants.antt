@@ -27,14 +27,14 @@ use Rattle.calls.specs.declared.Load.the-variants.{Fcb, TranslateTable, 
 use Rattle.calls.specs.Core.{Core, World, started, Stores}
 use Rattle.calls.specs.Reset.{blankSheet, noCells, Kept, keptOf, resetState, resetStores, reset}
 use Rattle.calls.specs.Effects.{movedSheet, writtenSheet, written, loadCheck, slotLoaded, slotSelected, loaded}
-use Rattle.calls.specs.Calls.{Call, emptied, effect, step}
+use Rattle.calls.specs.Calls.{Call, pageCounted, emptied, tallying, effect, step}
 use Rattle.calls.specs.Start.{Asked, startRefusal, startWorld, startOutcome}
 use Rattle.calls.specs.Premises.{FixedGood, Good, Sized, Free}
 use Rattle.calls.specs.Lists.{worldAfter}
 use Rattle.calls.proofs.Accepted.{started-world}
 use Rattle.calls.proofs.Refused.{no-9}
 use Rattle.calls.proofs.Answers.{names, untouched}
-use Rattle.calls.proofs.Good.{good-write, good-move, good-complete, good-reset, good-block, good-select, good-load, good-empty, ok, start-good}
+use Rattle.calls.proofs.Good.{good-write, good-move, good-complete, good-reset, good-block, good-select, good-load, good-count, good-empty, good-tally, ok, start-good}
 use Rattle.calls.proofs.Changes.{Unused, Survives, preserved, preserved-list}
 
 -- Contents that a printer can have.
@@ -48,7 +48,9 @@ good-survives =
       block = λ b g q. good-block b g;
       select = λ n g h q. good-select n g h;
       load = λ l r g u e h q. good-load l r g e h;
+      count = λ g e q. good-count g e;
       empty = λ g q. good-empty g;
+      tally = λ t g e q. good-tally t g e;
     }
 
 pub good-call : (k : Core) (c : Call) → Good k → Good (effect k c .core)
@@ -69,7 +71,7 @@ abbrev pub Fixes : Fixed → Core → Type 0
 Fixes f k = k .state .fixed ≡ f
 
 fixes-survives : (f : Fixed) → Survives (Fixes f)
-unfolding written reset resetState emptied
+unfolding written reset resetState pageCounted emptied tallying
 fixes-survives f =
     record {
       write = λ r g f h q. q;
@@ -79,7 +81,9 @@ fixes-survives f =
       block = λ b g q. q;
       select = λ n g h q. q;
       load = λ {k} l r g u e h q. untouched k l r .fixed ∙ q;
+      count = λ g e q. q;
       empty = λ g q. q;
+      tally = λ t g e q. q;
     }
 
 pub fixed-call : (f : Fixed) (k : Core) (c : Call) → Fixes f k → Fixes f (effect k c .core)
@@ -109,7 +113,7 @@ load-sized OverlaySequence r g e z = let fits = length-padded pairSize r (sequen
 load-sized CopyNumber r g e z = search
 
 sized-survives : Survives (λ k. Sized (k .state))
-unfolding written reset emptied slotSelected
+unfolding written reset pageCounted emptied tallying slotSelected
 sized-survives =
     record {
       write = λ r g f h q. search;
@@ -119,7 +123,9 @@ sized-survives =
       block = λ b g q. search;
       select = λ n g h q. search;
       load = λ l r g u e h q. load-sized l r g e q;
+      count = λ g e q. search;
       empty = λ g q. search;
+      tally = λ t g e q. search;
     }
 
 pub sized-call : (k : Core) (c : Call) → Sized (k .state) → Sized (effect k c .core .state)
@@ -154,7 +160,7 @@ blank-reset k f (inr e) h w′ u′ = e
 
 -- A completed page waits; a load comes to a page that is not started.
 blank-survives : Survives Blank
-unfolding written writtenSheet started movedSheet toTop emptied
+unfolding written writtenSheet started movedSheet toTop pageCounted emptied tallying
 blank-survives =
     record {
       write = λ {k} r g f h q w u. absurd (true≢false (sym (or-true (not (eqb (k .state .sheet .line) 1))) ∙ u));
@@ -164,7 +170,9 @@ blank-survives =
       block = λ b g q. q;
       select = λ n g h q. q;
       load = λ {k} l r g u e h q w u′. untouched k l r .page ∙ q (sym (untouched k l r .waiting) ∙ w) u;
+      count = λ g e q. q;
       empty = λ g q w u. refl;
+      tally = λ t g e q. q;
     }
 
 pub blank-call : (k : Core) (c : Call) → Blank k → Blank (effect k c .core)

@@ -2,14 +2,14 @@
 use Prim.Native.Nat.{ℕ, _≤_}
 use mathlib.Core.Path.{_≡_, refl, ap, _∙_}
 use mathlib.Core.Bool.{Bool, true, false, not, _&&_, and-false}
-use mathlib.Core.List.{List, [], _∷_, map}
+use mathlib.Core.List.{List, [], _∷_, _++_, map}
 use mathlib.Core.Logic.{_⊎_, inl, inr}
 use lib.Dec.{eqb, lit≤}
 use borrow.Author.Tests.{le-ltb, not-true}
 use Rattle.seq.specs.Words.{firstOr, when, every, from}
 use Rattle.seq.proofs.Laws.{First, first-is, first-only, cond-has, every-at}
 use Rattle.numbers.specs.declared.Refusal.{Refusal}
-use Rattle.numbers.specs.declared.Refusal.the-variants.{Accepted, NotListed, BadRecord, PageWaiting, PageStarted, NoPage, BadIndex, TooShort, BadStore, TwoPages}
+use Rattle.numbers.specs.declared.Refusal.the-variants.{Accepted, NotListed, BadRecord, PageWaiting, PageStarted, NoPage, BadIndex, TooShort, BadStore, TwoPages, NoneBetween, MostBetween}
 use Rattle.numbers.specs.Numbers.{senseAfter, rowOf, numberOf, isAccepted, only}
 use Rattle.numbers.proofs.Laws.{tells, sense-kept, number-not, number-check, number-none}
 use Rattle.form.specs.Form.{formLengths, formOk}
@@ -22,7 +22,7 @@ use Rattle.calls.specs.Core.{Stores, Core, World, sizesOk, started}
 use Rattle.calls.specs.Commands.{decode, controlTraits}
 use Rattle.calls.specs.Contents.{rangesOk, coreOk}
 use Rattle.calls.specs.Effects.{Effect, refused, moveOf}
-use Rattle.calls.specs.Calls.{Call, command, compose, release, movement, testsOf, refusalOf, doCompose, perform, sizeOf, effect, lent, Outcome, step}
+use Rattle.calls.specs.Calls.{Call, command, compose, release, tally, movement, testsOf, refusalOf, doCompose, perform, sizeOf, effect, lent, Outcome, step}
 use Rattle.calls.specs.Start.{Asked, startTests, startRefusal, noState, noPrinter, startOutcome}
 
 -- What a call does is what its refusal says, or what the accepted call does.
@@ -58,10 +58,10 @@ one-page-only k (Controls c) =
 one-page-only k (Loads l) = lit≤ tt
 one-page-only k Unlisted = lit≤ tt
 
--- A number other than 0 to 8 is not given, unless it is 9 and the contents are bad. So contents that a printer can have get no 9, number 10 is Start's
--- alone, and 11 is never given.
+-- A number other than 0 to 8, 12 and 13 is not given, unless it is 9 and the contents are bad. So contents that a printer can have get no 9, number 10 is
+-- Start's alone, and 11 is never given.
 pub not-given : (n : ℕ) (k : Core) (c : Call) → (not (coreOk k) ≡ false) ⊎ (eqb 9 n ≡ false)
-    → every (map (λ m. not (eqb m n)) (from 0 9)) ≡ true → eqb (numberOf (refusalOf k c)) n ≡ false
+    → every (map (λ m. not (eqb m n)) (from 0 9 ++ (12 ∷ 13 ∷ []))) ≡ true → eqb (numberOf (refusalOf k c)) n ≡ false
 unfolding refusalOf rowOf
 not-given n k (command i) nine other =
     number-not n _ BadStore _ nine
@@ -79,7 +79,11 @@ not-given n k (compose m out) nine other =
     (number-not n _ TooShort [] (inr (not-true _ (every-at 8 _ other))) (number-none n (not-true _ (every-at 0 _ other))))))
 not-given n k release nine other =
     number-not n _ BadStore _ nine
-    (number-not n _ NoPage [] (inr (not-true _ (every-at 6 _ other))) (number-none n (not-true _ (every-at 0 _ other))))
+    (number-not n _ NoPage _ (inr (not-true _ (every-at 6 _ other)))
+    (number-not n _ MostBetween [] (inr (not-true _ (every-at 10 _ other))) (number-none n (not-true _ (every-at 0 _ other)))))
+not-given n k (tally t) nine other =
+    number-not n _ BadStore _ nine
+    (number-not n _ NoneBetween [] (inr (not-true _ (every-at 9 _ other))) (number-none n (not-true _ (every-at 0 _ other))))
 
 pub no-9 : (k : Core) (c : Call) → coreOk k ≡ true → eqb (numberOf (refusalOf k c)) 9 ≡ false
 unfolding every
@@ -137,6 +141,7 @@ unfolding refusalOf firstOr when
 bad-store k (command i) e = rw e
 bad-store k (compose n out) e = rw e
 bad-store k release e = rw e
+bad-store k (tally t) e = rw e
 
 pub nine : (w : World) (c : Call) → coreOk (w .core) ≡ false → step w c ≡ record { answer = only BadStore 0; buffer = lent c; world = w }
 unfolding isAccepted rowOf

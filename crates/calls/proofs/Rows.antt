@@ -10,7 +10,7 @@ use Rattle.numbers.specs.declared.Sense.{Sense}
 use Rattle.numbers.specs.declared.Answer.{Answer}
 use Rattle.numbers.specs.declared.Cause.the-variants.{FcbSpacing, FcbSum, SequenceCounts, SegmentEnds, SegmentFields}
 use Rattle.numbers.specs.declared.Refusal.{Refusal}
-use Rattle.numbers.specs.declared.Refusal.the-variants.{Accepted, LoadCheck, PageWaiting, PageStarted, BadForm}
+use Rattle.numbers.specs.declared.Refusal.the-variants.{Accepted, NotListed, LoadCheck, PageWaiting, PageStarted, BadForm, NoneBetween}
 use Rattle.numbers.specs.Numbers.{sense3, noSense, causeOf, rowOf, isAccepted, checked, isSound}
 use Rattle.form.specs.declared.Forms.{Forms}
 use Rattle.form.specs.Form.{formLengths, pitchesListed, pitchesOk, formOk, unitsOf, runsFrom, runs, unitsTotal, linesWhere, printable, edges, fcbCheck, layoutCheck, layoutOf, channelAt, startFcb, fcbSize, formsOf, formsInRange}
@@ -20,16 +20,18 @@ use Rattle.line.specs.Line.{slotAt, putSlot, isLoaded, serving, unprintable, st
 use Rattle.copies.specs.declared.Copies.{Copies}
 use Rattle.copies.specs.Copies.{pairSize, tableCheck, pairsOf, copiesOf, sequenceCheck, markIn, numberCheck, withSequence, withReference, startCopies, copyCount, copyNumber, copyMark, copiesInRange}
 use Rattle.legends.specs.Legends.{segmentOf, badHead, cut, segments, legendCheck, storedLegends, unprintableInTexts, storedSegments, legendsOk, noLegends, covers, shown, copyFrom, composed}
+use Rattle.counters.specs.declared.Tally.the-variants.{Transferred, Fused, Stacked, Cancel, Restart}
+use Rattle.counters.specs.Counters.{counters, counted, transferred, fused, stacked, cancelled, restarted, tallied, noneBetween, countersOk}
 use Rattle.calls.specs.declared.Sheet.{Sheet}
 use Rattle.calls.specs.declared.State.{State}
-use Rattle.calls.specs.Core.{Stores, World, withBlocked, withForms, withSlots, withCopies, sizesOk, linesNow, started}
+use Rattle.calls.specs.Core.{Stores, World, withBlocked, withForms, withSlots, withCopies, withCounters, sizesOk, linesNow, started}
 use Rattle.calls.specs.Commands.{issued, codes, lookUp, decode, controlTraits, traitsOf}
 use Rattle.calls.specs.Contents.{lineOk, rangesOk, dueOk, writtenOk, coreOk}
 use Rattle.calls.specs.Reset.{blankSheet, noCells, Kept, resetState, resetStores, reset, fresh, byte3, senseBytes}
 use Rattle.calls.specs.Effects.{refused, done, movedSheet, moveOf, doMove, writtenSheet, written, writeCauses, doWrite, loadCheck, atLine1, slotLoaded, slotSelected, loaded, loadCauses, doLoad, completing, doControl, doCommand}
-use Rattle.calls.specs.Calls.{Call, command, compose, release, checkOf, movement, refusalOf, copyAt, doCompose, emptied, released, doRelease, perform, effect, step}
+use Rattle.calls.specs.Calls.{Call, command, compose, release, tally, checkOf, movement, refusalOf, copyAt, doCompose, pageCounted, emptied, released as releasedCore, doRelease, tallying, doTally, perform, effect, step}
 use Rattle.calls.specs.Start.{asked, startRefusal, startWorld, noState, noPrinter, startOutcome}
-use Rattle.calls.specs.Lists.{Deed, commanded, wasReleased, worldAfter, counts, readOf, deedOf, finishesReset, copiesOfPage, given, sinceNow, note, sinceOver, sinceReset}
+use Rattle.calls.specs.Lists.{Deed, commanded, wasReleased, wasTallied, worldAfter, counts, readOf, deedOf, finishesReset, copiesOfPage, given, sinceNow, note, sinceOver, sinceReset}
 
 -- A printer started over stores full of other bytes, with these pitches on the 3½ inch form; R1 to R12 have all four pitches 10.
 abbrev old : Stores
@@ -124,10 +126,17 @@ waiting l = sheet l false true false
 
 -- What Start leaves, written out; and with another sheet.
 abbrev pitched : List ℕ → Sheet → State
-pitched ps x = record { fixed = record { length = 84; pitches = ps }; blocked = false; forms = fcb (zeros 3 ++ 1 ∷ zeros 17); slots = slot 0; copies = pair 1 0 1; sheet = x }
+pitched ps x = record { fixed = record { length = 84; pitches = ps }; blocked = false; forms = fcb (zeros 3 ++ 1 ∷ zeros 17); slots = slot 0; copies = pair 1 0 1; sheet = x; counters = counters 0 0 0 0 }
 
 abbrev on : Sheet → State
 on x = pitched tens x
+
+-- With so many pages counted by channel, transfer, fuser and stacker; and with one released.
+abbrev passed : ℕ → ℕ → ℕ → ℕ → State → State
+passed c t f s x = withCounters x (counters c t f s)
+
+abbrev out : State → State
+out x = passed 1 0 0 0 x
 
 abbrev table0 : List ℕ
 table0 = replicate 64 0xFF ++ from 0 64 ++ from 0 64 ++ from 0 64
@@ -231,6 +240,16 @@ threeTexts = 1 ∷ 1 ∷ 1 ∷ 1 ∷ 1 ∷ 2 ∷ 0xC1 ∷ 0xC2 ∷ 1 ∷ 1 ∷ 2
 abbrev threeStored : List ℕ
 threeStored = 1 ∷ 1 ∷ 1 ∷ 1 ∷ 1 ∷ 2 ∷ 1 ∷ 2 ∷ 1 ∷ 1 ∷ 2 ∷ 1 ∷ 1 ∷ 2 ∷ 1 ∷ 0 ∷ 1 ∷ 1 ∷ 3 ∷ 1 ∷ 1 ∷ 2 ∷ 0 ∷ 0 ∷ []
 
+-- A page written, completed and released, with the answers; a report where no page is between.
+abbrev onePage : List Call
+onePage = with 0x01 (0xC1 ∷ []) ∷ cmd 0x87 ∷ release ∷ []
+
+abbrev released : List Answer
+released = fine ∷ completes 0 ∷ freed ∷ []
+
+abbrev none : Answer
+none = says NoneBetween 0 false 0
+
 -- Rows of our own, for rules that R1 to R12 leave unseen.
 unfoldable pub ours : List Row
 ours =
@@ -242,15 +261,15 @@ ours =
     -- Initialize leaves the legends of the page that it has just completed; after its Release they are gone, with sequence and number.
     ∷ composing (cmd 0x37) true 2 6 legended
     ∷ row (fromFive ++ (cmd 0x37 ∷ release ∷ with 0x01 (0xC3 ∷ []) ∷ cmd 0x87 ∷ copy 1 ∷ [])) (replicate 4 fine ++ (completes 0 ∷ freed ∷ fine ∷ completes 0 ∷ copied 1 0 ∷ []))
-    (filled copySize (3 ∷ [])) noSense (on (waiting 1)) (page (3 ∷ []))
+    (filled copySize (3 ∷ [])) noSense (out (on (waiting 1))) (page (3 ∷ []))
     -- A reset forgets the selection, and keeps the check switch; so does the reset that a Release does.
     ∷ after (cmd 0x57 ∷ cmd 0x37 ∷ []) (with 0x01 (0xC1 ∷ [])) fine noSense (on writing) (page (1 ∷ []))
     ∷ after (cmd 0x73 ∷ cmd 0x37 ∷ []) (with 0x01 (0x3F ∷ [])) (telling 1 1 fine) noSense (withBlocked (on writing) true) (page [])
     ∷ row (cmd 0x73 ∷ with 0x01 (0xC1 ∷ []) ∷ cmd 0x37 ∷ release ∷ with 0x01 (0x3F ∷ []) ∷ []) (fine ∷ fine ∷ completes 0 ∷ freed ∷ telling 1 1 fine ∷ []) [] noSense
-    (withBlocked (on writing) true) (page [])
+    (out (withBlocked (on writing) true)) (page [])
     -- Release keeps the line to which a skip has led.
     ∷ row (with 0x63 channel5 ∷ cmd 0x13 ∷ cmd 0x1B ∷ cmd 0xAB ∷ release ∷ []) (fine ∷ says Accepted 0x0C false 2 ∷ says Accepted 0x0C false 3 ∷ completes 14 ∷ freed ∷ []) [] noSense
-    (withForms (on (at 5)) (fcb channel5)) (page [])
+    (out (withForms (on (at 5)) (fcb channel5))) (page [])
     -- Copy numbers and segments run up to 509, unreduced, with the mark of the copy's pair.
     ∷ row (with 0x43 (0xFE ∷ 0 ∷ 1 ∷ 1 ∷ []) ∷ with 0x23 (0xFF ∷ []) ∷ with 0x35 (0xFF ∷ 0xFF ∷ 1 ∷ 1 ∷ 1 ∷ 1 ∷ 0xC1 ∷ []) ∷ with 0x01 (0xC2 ∷ []) ∷ cmd 0x87 ∷ copy 255 ∷ [])
     (replicate 4 fine ++ (completes 0 ∷ copied 509 1 ∷ [])) (filled copySize (1 ∷ [])) noSense
@@ -260,7 +279,7 @@ ours =
     (filled copySize (1 ∷ [])) noSense (on (waiting 1)) (legend (1 ∷ 1 ∷ 1 ∷ 1 ∷ 1 ∷ 2 ∷ 1 ∷ 2 ∷ 1 ∷ 1 ∷ 1 ∷ 1 ∷ 2 ∷ 1 ∷ 0 ∷ []) (3 ∷ 3 ∷ []))
     -- The page after a Release begins empty and is a page of its own.
     ∷ row (with 0x09 (0xC1 ∷ []) ∷ with 0x09 (0xC1 ∷ []) ∷ cmd 0x87 ∷ release ∷ with 0x01 (0xC2 ∷ []) ∷ cmd 0x87 ∷ copy 1 ∷ [])
-    (says Accepted 0x0C false 1 ∷ says Accepted 0x0C false 1 ∷ completes 0 ∷ freed ∷ fine ∷ completes 0 ∷ copied 1 0 ∷ []) (filled copySize (2 ∷ [])) noSense (on (waiting 1)) (page (2 ∷ []))
+    (says Accepted 0x0C false 1 ∷ says Accepted 0x0C false 1 ∷ completes 0 ∷ freed ∷ fine ∷ completes 0 ∷ copied 1 0 ∷ []) (filled copySize (2 ∷ [])) noSense (out (on (waiting 1))) (page (2 ∷ []))
     -- A line that is left takes its mark with it.
     ∷ after [] (with 0x09 (0xC1 ∷ [])) (says Accepted 0x0C false 1) noSense (on (at 2)) (page (1 ∷ []))
     -- A load on a started page is refused and has not moved the form.
@@ -299,11 +318,22 @@ ours =
     ∷ sensing (cmd 0x0B ∷ []) (says Accepted 0x0C false 1 ∷ []) 0x80 (on (at 2))
     ∷ sensing (cmd 0x0B ∷ cmd 0x87 ∷ []) (says Accepted 0x0C false 1 ∷ completes 0 ∷ []) 0x80 (on (waiting 1))
     ∷ sensing (cmd 0x73 ∷ []) (fine ∷ []) 0xE0 (withBlocked (on (at 1)) true)
+    -- T-02: a page passes the three stations; none passes where there is none, and the sense is kept.
+    ∷ row (onePage ++ (tally Transferred ∷ tally Fused ∷ tally Stacked ∷ [])) (released ++ (freed ∷ freed ∷ freed ∷ [])) [] noSense (passed 1 1 1 1 (on (at 1))) (page [])
+    ∷ row (cmd 0xFF ∷ tally Transferred ∷ tally Fused ∷ tally Stacked ∷ []) (says NotListed 0x0E false 0 ∷ none ∷ none ∷ none ∷ []) [] (sense3 0x80 0x80 0) (on (at 1)) (page [])
+    ∷ row (onePage ++ (tally Fused ∷ tally Transferred ∷ tally Transferred ∷ tally Stacked ∷ [])) (released ++ (none ∷ freed ∷ none ∷ none ∷ [])) [] noSense (passed 1 1 0 0 (on (at 1))) (page [])
+    -- A cancel gives up what has not passed transfer, a restart what is not stacked; either on a page that waits, which stays.
+    ∷ row (onePage ++ onePage ++ (tally Transferred ∷ tally Cancel ∷ tally Cancel ∷ [])) (released ++ released ++ (freed ∷ freed ∷ freed ∷ [])) [] noSense (passed 1 1 0 0 (on (at 1))) (page [])
+    ∷ row (onePage ++ onePage ++ (tally Transferred ∷ tally Fused ∷ tally Transferred ∷ with 0x01 (0xC2 ∷ []) ∷ cmd 0x87 ∷ tally Restart ∷ []))
+    (released ++ released ++ (freed ∷ freed ∷ freed ∷ fine ∷ completes 0 ∷ freed ∷ [])) [] noSense (on (waiting 1)) (page (2 ∷ []))
+    -- The counters live through both resets.
+    ∷ row (onePage ++ (tally Transferred ∷ with 0x37 [] ∷ with 0x01 (0xC2 ∷ []) ∷ cmd 0x37 ∷ release ∷ [])) (released ++ (freed ∷ fine ∷ fine ∷ completes 0 ∷ freed ∷ [])) [] noSense
+    (passed 2 1 0 0 (on (at 1))) (page [])
     ∷ []
 
 -- A refused Start: all zeros, and the stores as they were.
 abbrev zeroState : State
-zeroState = record { fixed = record { length = 0; pitches = zeros 4 }; blocked = false; forms = fcb []; slots = record { loaded = replicate 4 false; selected = 0 }; copies = record { pairs = zeros pairSize; count = 0; reference = 0 }; sheet = at 0 }
+zeroState = record { fixed = record { length = 0; pitches = zeros 4 }; blocked = false; forms = fcb []; slots = record { loaded = replicate 4 false; selected = 0 }; copies = record { pairs = zeros pairSize; count = 0; reference = 0 }; sheet = at 0; counters = counters 0 0 0 0 }
 
 pub refused-start-table : startOutcome (asked 85 tens) old
     ≡ record { answer = says BadForm 0 false 0; buffer = []; world = record { core = record { state = zeroState; stores = old }; sense = sense3 0 0 0 } }
@@ -311,33 +341,35 @@ unfolding startOutcome startRefusal noPrinter noState sizesOk formOk formLengths
 refused-start-table = refl
 
 -- What counts since the latest finished reset, of lists with refused calls, No-Op, Sense and Compose among them: since the Release that did a reset with
--- Block on; since Start, with a Release that did no reset; since Initialize with Block on; since Start, with Initialize on a started page.
+-- Block on; since Start, with a Release that did no reset, and reports, of which one is refused; since Initialize with Block on, with one page out; since
+-- Start, with Initialize on a started page.
 pub record Counted : Type 0 where
   pub calls : List Call
   pub kept : Kept
   pub deeds : List Deed
 
-abbrev list : List Call → Bool → List Deed → Counted
-list calls switch deeds = record { calls = calls; kept = record { blocked = switch }; deeds = deeds }
+abbrev list : List Call → Bool → ℕ → List Deed → Counted
+list calls switch pages deeds = record { calls = calls; kept = record { blocked = switch; counters = counters pages 0 0 0 }; deeds = deeds }
 
 unfoldable pub lists : List Counted
 lists =
     list (cmd 0x73 ∷ with 0x01 (0xC1 ∷ []) ∷ cmd 0xFF ∷ cmd 0x37 ∷ cmd 0x0B ∷ release ∷ release ∷ cmd 0x03 ∷ with 0x0B (1 ∷ []) ∷ with 0x63 (zeros 21) ∷ cmd 0x7B ∷ senseIo ∷ [])
-    true (commanded 0x0B [] ∷ commanded 0x7B [] ∷ [])
-    ∷ list (with 0x43 (1 ∷ 1 ∷ []) ∷ with 0x01 (0xC1 ∷ []) ∷ cmd 0x87 ∷ copy 1 ∷ cmd 0x0B ∷ release ∷ [])
-    false (commanded 0x43 (1 ∷ 1 ∷ []) ∷ commanded 0x01 (0xC1 ∷ []) ∷ commanded 0x87 [] ∷ wasReleased ∷ [])
+    true 1 (commanded 0x0B [] ∷ commanded 0x7B [] ∷ [])
+    ∷ list (with 0x43 (1 ∷ 1 ∷ []) ∷ with 0x01 (0xC1 ∷ []) ∷ cmd 0x87 ∷ copy 1 ∷ cmd 0x0B ∷ release ∷ tally Transferred ∷ tally Stacked ∷ tally Cancel ∷ tally Restart ∷ [])
+    false 0
+    (commanded 0x43 (1 ∷ 1 ∷ []) ∷ commanded 0x01 (0xC1 ∷ []) ∷ commanded 0x87 [] ∷ wasReleased ∷ wasTallied Transferred ∷ wasTallied Cancel ∷ wasTallied Restart ∷ [])
     ∷ list (cmd 0x0B ∷ cmd 0x87 ∷ release ∷ cmd 0x73 ∷ with 0x37 (1 ∷ []) ∷ command (issued 0x7B (2 ∷ []) (3 ∷ [])) ∷ with 0x57 (4 ∷ []) ∷ [])
-    true (commanded 0x7B [] ∷ commanded 0x57 [] ∷ [])
-    ∷ list (with 0x01 (0xC1 ∷ []) ∷ cmd 0x37 ∷ []) false (commanded 0x01 (0xC1 ∷ []) ∷ commanded 0x37 [] ∷ [])
+    true 1 (commanded 0x7B [] ∷ commanded 0x57 [] ∷ [])
+    ∷ list (with 0x01 (0xC1 ∷ []) ∷ cmd 0x37 ∷ []) false 0 (commanded 0x01 (0xC1 ∷ []) ∷ commanded 0x37 [] ∷ [])
     ∷ []
 
-abbrev counted : Counted → Counted
-counted l = let s = sinceReset (begun tens) (l .calls) in record { calls = l .calls; kept = s .kept; deeds = s .deeds }
+abbrev seen : Counted → Counted
+seen l = let s = sinceReset (begun tens) (l .calls) in record { calls = l .calls; kept = s .kept; deeds = s .deeds }
 
 -- Lists of calls go from the first call to the last.
 abbrev spaceThenClear : World
 spaceThenClear = worldAfter (begun tens) (cmd 0x0B ∷ cmd 0x87 ∷ [])
 
-pub table : (map see (rows ++ ours) ≡ rows ++ ours) × (map counted lists ≡ lists) × (spaceThenClear .core .state .sheet ≡ waiting 1)
-unfolding rows ours lists ran flatten zipWith when firstOr every padded causeOf rowOf isAccepted checked isSound formLengths pitchesListed pitchesOk formOk unitsOf runsFrom runs unitsTotal linesWhere printable edges fcbCheck layoutCheck layoutOf channelAt startFcb formsOf formsInRange entered round upToFirst spaced skipped moved still toTop slotAt putSlot isLoaded serving unprintable standIn cellOf translated unprintableAt lineCells mergeRules mergeCell collides mergeLine anyCollides lineAt putLine pageWritten noCauses textCauses lineCauses orUnmatched causeByte startTable startTables startSlots slotsInRange tableCheck pairsOf copiesOf sequenceCheck markIn numberCheck withSequence withReference startCopies copyCount copyNumber copyMark copiesInRange segmentOf badHead cut segments legendCheck storedLegends unprintableInTexts storedSegments legendsOk noLegends covers shown copyFrom composed sizesOk linesNow started codes lookUp decode controlTraits traitsOf lineOk rangesOk dueOk writtenOk coreOk blankSheet noCells resetState resetStores reset fresh byte3 senseBytes refused done movedSheet moveOf doMove writtenSheet written writeCauses doWrite loadCheck atLine1 slotLoaded slotSelected loaded loadCauses doLoad completing doControl doCommand checkOf movement refusalOf copyAt doCompose emptied released doRelease perform effect step startRefusal startWorld noState noPrinter startOutcome worldAfter counts readOf deedOf finishesReset sinceNow note sinceOver sinceReset copiesOfPage given
+pub table : (map see (rows ++ ours) ≡ rows ++ ours) × (map seen lists ≡ lists) × (spaceThenClear .core .state .sheet ≡ waiting 1)
+unfolding rows ours lists ran flatten zipWith when firstOr every padded causeOf rowOf isAccepted checked isSound formLengths pitchesListed pitchesOk formOk unitsOf runsFrom runs unitsTotal linesWhere printable edges fcbCheck layoutCheck layoutOf channelAt startFcb formsOf formsInRange entered round upToFirst spaced skipped moved still toTop slotAt putSlot isLoaded serving unprintable standIn cellOf translated unprintableAt lineCells mergeRules mergeCell collides mergeLine anyCollides lineAt putLine pageWritten noCauses textCauses lineCauses orUnmatched causeByte startTable startTables startSlots slotsInRange tableCheck pairsOf copiesOf sequenceCheck markIn numberCheck withSequence withReference startCopies copyCount copyNumber copyMark copiesInRange segmentOf badHead cut segments legendCheck storedLegends unprintableInTexts storedSegments legendsOk noLegends covers shown copyFrom composed sizesOk linesNow started codes lookUp decode controlTraits traitsOf lineOk rangesOk dueOk writtenOk coreOk blankSheet noCells resetState resetStores reset fresh byte3 senseBytes refused done movedSheet moveOf doMove writtenSheet written writeCauses doWrite loadCheck atLine1 slotLoaded slotSelected loaded loadCauses doLoad completing doControl doCommand checkOf movement refusalOf copyAt doCompose pageCounted emptied releasedCore doRelease tallying doTally counted tallied transferred fused stacked cancelled restarted noneBetween countersOk perform effect step startRefusal startWorld noState noPrinter startOutcome worldAfter counts readOf deedOf finishesReset sinceNow note sinceOver sinceReset copiesOfPage given
 table = (refl, refl, refl)

@@ -9,7 +9,6 @@ use Rattle.seq.proofs.Laws.{every-at}
 use Rattle.numbers.specs.declared.Refusal.the-variants.{Accepted}
 use Rattle.numbers.specs.Numbers.{rowOf, isAccepted}
 use Rattle.calls.specs.declared.Fixed.{Fixed}
-use Rattle.calls.specs.declared.State.{State}
 use Rattle.calls.specs.declared.Control.the-variants.{NoOp, SenseIo, Initialize, Clear, Block, Allow, Select}
 use Rattle.calls.specs.declared.Command.{Command}
 use Rattle.calls.specs.declared.Command.the-variants.{Write, Move, Controls, Loads, Unlisted}
@@ -17,9 +16,9 @@ use Rattle.calls.specs.Core.{Core, World, started}
 use Rattle.calls.specs.Commands.{Issued, issued, decode, controlTraits, traitsOf}
 use Rattle.calls.specs.Reset.{blankSheet, noCells, Kept, keptOf, resetState, resetStores, reset, fresh}
 use Rattle.calls.specs.Effects.{Effect, refused, done, completing, doControl, doCommand}
-use Rattle.calls.specs.Calls.{Call, command, compose, release, commandTests, checkOf, refusalOf, doCompose, emptied, released, doRelease, perform, effect, step}
+use Rattle.calls.specs.Calls.{Call, command, compose, release, tally, commandTests, checkOf, refusalOf, doCompose, pageCounted, emptied, released, doRelease, perform, effect, step}
 use Rattle.calls.specs.Premises.{Free}
-use Rattle.calls.specs.Lists.{worldAfter, counts, Deed, commanded, wasReleased, readOf, deedOf, finishesReset, Given, given, gives, Since, sinceNow, note, sinceOver, sinceReset}
+use Rattle.calls.specs.Lists.{worldAfter, counts, Deed, commanded, wasReleased, wasTallied, readOf, deedOf, finishesReset, Given, given, gives, Since, sinceNow, note, sinceOver, sinceReset}
 use Rattle.calls.proofs.Accepted.{allowed}
 use Rattle.calls.proofs.Refused.{accepted-effect, by-outcome}
 use Rattle.calls.proofs.Answers.{Shape, sets, quiet, shape, was-free}
@@ -42,11 +41,13 @@ idle-core k (command i) e =
     by-outcome (λ (x : Effect). x .core ≡ k) k (command i) (λ a. quiet-core (shape k (decode (i .byte)) i (allowed k i a .known)) (not-counted a e)) (λ a. refl)
 idle-core k (compose n out) e = by-outcome (λ (x : Effect). x .core ≡ k) k (compose n out) (λ a. refl) (λ a. refl)
 idle-core k release e = by-outcome (λ (x : Effect). x .core ≡ k) k release (λ a. absurd (true≢false (sym a ∙ e))) (λ a. refl)
+idle-core k (tally t) e = by-outcome (λ (x : Effect). x .core ≡ k) k (tally t) (λ a. absurd (true≢false (sym a ∙ e))) (λ a. refl)
 
 -- A deed done again: the reply buffer, and a record that the command ignores, do not matter.
 abbrev pub callOf : Deed → Call
 callOf (commanded b r) = command (issued b r [])
 callOf wasReleased = release
+callOf (wasTallied t) = tally t
 
 abbrev bare : Command → Issued → Issued
 bare c i = issued (i .byte) (readOf c (i .sent)) []
@@ -86,6 +87,7 @@ unfolding counts deedOf
 again k (command i) e = again-command k i (not-true _ (every-at 1 _ e)) (every-at 0 _ e)
 again k (compose n out) e = absurd (false≢true e)
 again k release e = refl
+again k (tally t) e = refl
 
 -- A finished reset leaves a printer that depends on what Start fixed and what the reset kept alone.
 is-initialize : (c : Command) → traitsOf c .resets ≡ true → c ≡ Controls Initialize
@@ -107,22 +109,31 @@ initialized : (k : Core) (i : Issued) → started (k .state .sheet) ≡ false �
 unfolding doCommand doControl completing done reset fresh
 initialized k i e p = rw (e, p)
 
-released-due : (k : Core) → k .state .sheet .due ≡ true → released k ≡ fresh (k .state .fixed) (keptOf (k .state))
-unfolding released emptied reset fresh
+released-due : (k : Core) → k .state .sheet .due ≡ true → released k ≡ fresh (k .state .fixed) (keptOf (pageCounted k .state))
+unfolding released pageCounted emptied reset fresh
 released-due k e = rw e
 
-finished : (k : Core) (c : Call) → Blank k → finishesReset k c ≡ true → effect k c .core ≡ fresh (k .state .fixed) (keptOf (k .state))
+-- a printer that is as a reset leaves it has what the reset kept
+fresh-kept : (f : Fixed) (p : Kept) {k : Core} → k ≡ fresh f p → k ≡ fresh f (keptOf (k .state))
+unfolding fresh resetState
+fresh-kept f p e = rw e
+
+finished : (k : Core) (c : Call) → Blank k → finishesReset k c ≡ true → effect k c .core ≡ fresh (k .state .fixed) (keptOf (effect k c .core .state))
 unfolding finishesReset counts perform doRelease
 finished k (command i) h e =
     let a : isAccepted (refusalOf k (command i)) ≡ true = every-at 0 _ (every-at 0 _ e) in
     let q : traitsOf (decode (i .byte)) .quiet ≡ false = not-true _ (every-at 1 _ (every-at 0 _ e)) in
     let u : started (k .state .sheet) ≡ false = not-true _ (every-at 2 _ e) in
     let w : Free k = was-free q (allowed k i a .free) in
-    ap (λ (x : Effect). x .core) (accepted-effect k (command i) a)
+    fresh-kept (k .state .fixed) (keptOf (k .state))
+    (ap (λ (x : Effect). x .core) (accepted-effect k (command i) a)
     ∙ ap (λ (c : Command). doCommand k c i .core) (is-initialize (decode (i .byte)) (every-at 1 _ e))
-    ∙ initialized k i u (h w u)
+    ∙ initialized k i u (h w u))
 finished k (compose n out) h e = absurd (false≢true e)
-finished k release h e = ap (λ (x : Effect). x .core) (accepted-effect k release (every-at 0 _ e)) ∙ released-due k (every-at 1 _ e)
+finished k release h e =
+    fresh-kept (k .state .fixed) (keptOf (pageCounted k .state))
+    (ap (λ (x : Effect). x .core) (accepted-effect k release (every-at 0 _ e)) ∙ released-due k (every-at 1 _ e))
+finished k (tally t) h e = absurd (false≢true e)
 
 -- after which no page waits
 pub finished-free : (k : Core) (c : Call) → Blank k → finishesReset k c ≡ true → Free (effect k c .core)
@@ -154,11 +165,6 @@ pub record Tracks (f : Fixed) (k : Core) (s : Since) : Type 0 where
   pub fixed : Fixes f k
   pub blank : Blank k
 
--- a printer that is as a reset leaves it has kept what the reset kept
-fresh-again : (f : Fixed) (s : State) {k : Core} → k ≡ fresh (s .fixed) (keptOf s) → s .fixed ≡ f → k ≡ fresh f (keptOf (k .state))
-unfolding fresh resetState
-fresh-again f s e h = rw (e, h)
-
 track-note : (f : Fixed) (k : Core) (s : Since) (c : Call) → Tracks f k s → Tracks f (effect k c .core) (note k s c)
 unfolding note sinceNow redo gives given
 track-note f k s c t = go (finishesReset k c) refl (counts k c) refl
@@ -167,7 +173,7 @@ track-note f k s c t = go (finishesReset k c) refl (counts k c) refl
     go true ep q eq =
         rw ep
         (record {
-          core = fresh-again f (k .state) (finished k c (t .blank) ep) (t .fixed);
+          core = finished k c (t .blank) ep ∙ ap (λ (g : Fixed). fresh g (keptOf (effect k c .core .state))) (t .fixed);
           gave = refl;
           fixed = fixed-call f k c (t .fixed);
           blank = blank-call k c (t .blank);

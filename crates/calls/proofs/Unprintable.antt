@@ -27,7 +27,7 @@ use Rattle.calls.specs.declared.Command.the-variants.{Write, Move, Contr
 use Rattle.calls.specs.Core.{Core, World}
 use Rattle.calls.specs.Commands.{Issued, decode, traitsOf}
 use Rattle.calls.specs.Effects.{Effect, refused, done, written, writeCauses, doWrite, loadCheck, loaded, loadCauses, doLoad, doCommand}
-use Rattle.calls.specs.Calls.{Call, command, compose, release, checkOf, refusalOf, doCompose, doRelease, perform, effect, step}
+use Rattle.calls.specs.Calls.{Call, command, compose, release, tally, checkOf, refusalOf, doCompose, doRelease, doTally, perform, effect, step}
 use Rattle.calls.specs.Premises.{Allowed}
 use Rattle.calls.proofs.Accepted.{allowed}
 use Rattle.calls.proofs.Refused.{by-outcome}
@@ -104,6 +104,7 @@ abbrev pub isTranslating : Call → Bool
 isTranslating (command i) = translates (decode (i .byte))
 isTranslating (compose n out) = false
 isTranslating release = false
+isTranslating (tally t) = false
 
 others-none : (k : Core) (c : Command) (r : List ℕ) → translates c ≡ false → unprintableIn k c r ≡ []
 others-none k (Write m) r e = absurd (true≢false e)
@@ -117,10 +118,11 @@ others-none k (Loads CopyNumber) r e = refl
 others-none k Unlisted r e = refl
 
 perform-none : (k : Core) (c : Call) → isAccepted (refusalOf k c) ≡ true → isTranslating c ≡ false → toldIn (perform k c .answer) ≡ told []
-unfolding perform doCompose doRelease
+unfolding perform doCompose doRelease doTally
 perform-none k (command i) a e = told-shape (performed k i a) ∙ ap told (others-none k (decode (i .byte)) (i .sent) e)
 perform-none k (compose n out) a e = refl
 perform-none k release a e = refl
+perform-none k (tally t) a e = refl
 
 pub tells-none : (k : Core) (c : Call) → (isTranslating c && isAccepted (refusalOf k c)) ≡ false → toldIn (effect k c .answer) ≡ told []
 unfolding refused
@@ -154,10 +156,11 @@ pub causes-tell : (k : Core) (c : Command) (i : Issued) → Allowed k c i → Te
 causes-tell k c i a = rw (causes-told k c i) (command-tells k c i a)
 
 perform-tells : (k : Core) (c : Call) → isAccepted (refusalOf k c) ≡ true → Tells (toldIn (perform k c .answer))
-unfolding perform doCompose doRelease
+unfolding perform doCompose doRelease doTally
 perform-tells k (command i) e = rw (told-shape (performed k i e)) (command-tells k (decode (i .byte)) i (allowed k i e))
 perform-tells k (compose n out) e = none-tells
 perform-tells k release e = none-tells
+perform-tells k (tally t) e = none-tells
 
 pub tells : (k : Core) (c : Call) → Tells (toldIn (effect k c .answer))
 unfolding refused
@@ -179,7 +182,7 @@ check-translated k Unlisted i s t e b = absurd (false≢true t)
 
 check-perform : (k : Core) (c : Call) (s : Sense) → isAccepted (refusalOf k c) ≡ true → eqb (perform k c .answer .count) 0 ≡ false
     → k .state .blocked ≡ false → senseAfter s (perform k c .sense) .b1 / 0x80 ≡ 1
-unfolding perform doCompose doRelease
+unfolding perform doCompose doRelease doTally
 check-perform k (command i) s a e b = go (translates (decode (i .byte))) refl
   where
     go : (t : Bool) → translates (decode (i .byte)) ≡ t → senseAfter s (doCommand k (decode (i .byte)) i .sense) .b1 / 0x80 ≡ 1
@@ -187,6 +190,7 @@ check-perform k (command i) s a e b = go (translates (decode (i .byte))) refl
     go false t = absurd (false≢true (sym e ∙ ap (λ (u : Unprintables). eqb (u .count) 0) (perform-none k (command i) a t)))
 check-perform k (compose n out) s a e b = absurd (true≢false e)
 check-perform k release s a e b = absurd (true≢false e)
+check-perform k (tally t) s a e b = absurd (true≢false e)
 
 pub tells-check : (w : World) (c : Call) → eqb (step w c .answer .count) 0 ≡ false → w .core .state .blocked ≡ false → step w c .world .sense .b1 / 0x80 ≡ 1
 unfolding step refused

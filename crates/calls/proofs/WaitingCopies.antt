@@ -3,20 +3,21 @@ use Prim.Native.Nat.{ℕ, _-_, _≤_}
 use mathlib.Core.Path.{_≡_, refl, sym, ap, _∙_}
 use mathlib.Core.Bool.{Bool, true, false, cond, not, _&&_, true≢false, false≢true}
 use mathlib.Core.List.{List, [], _∷_, _++_}
+use mathlib.Core.Logic.{_⊎_, inl, inr}
 use native.Mathlib.Omega.{arith}
 use lib.ListN.{getD}
 use borrow.Author.Tests.{not-true}
-use Rattle.seq.specs.Words.{lastOr, from}
+use Rattle.seq.specs.Words.{from}
 use Rattle.seq.proofs.Laws.{every-at, length-from, getD-from}
 use Rattle.seq.proofs.Loops.{getD-map}
 use Rattle.numbers.specs.declared.Refusal.the-variants.{Accepted}
-use Rattle.numbers.specs.Numbers.{isAccepted, only}
+use Rattle.numbers.specs.Numbers.{isAccepted}
 use Rattle.copies.specs.Copies.{copyCount}
 use Rattle.calls.specs.declared.Fixed.{Fixed}
-use Rattle.calls.specs.Core.{Core, World}
+use Rattle.calls.specs.Core.{Core, World, linesNow}
 use Rattle.calls.specs.Commands.{decode, traitsOf}
 use Rattle.calls.specs.Reset.{blankSheet, Kept, resetState, resetStores, fresh}
-use Rattle.calls.specs.Calls.{Call, command, compose, release, refusalOf, doCompose, doRelease, perform, effect, over, step, Copy, copyAt}
+use Rattle.calls.specs.Calls.{Call, command, compose, release, tally, refusalOf, doCompose, doRelease, tallying, doTally, perform, effect, over, step, Copy, copyAt}
 use Rattle.calls.specs.Premises.{Free}
 use Rattle.calls.specs.Lists.{worldAfter, counts, finishesReset, copiesOfPage, Given, given, gives, Since, sinceNow, note, sinceOver, sinceReset}
 use Rattle.calls.proofs.Accepted.{allowed}
@@ -44,28 +45,29 @@ pub compose-gives : (w : World) (n : ℕ) (out : List ℕ) → isAccepted (refus
 unfolding step perform doCompose copyAt
 compose-gives w n out e = rw (accepted-effect (w .core) (compose n out) e)
 
--- While a page waits only its Release counts, so that its copies stay.
-pub page-stays : (k : Core) (c : Call) → k .state .sheet .waiting ≡ true → counts k c ≡ true → c ≡ release
-unfolding counts
+-- While a page waits only its Release counts, and reports, cancels and restarts, which leave its copies as they are.
+pub page-stays : (k : Core) (c : Call) → k .state .sheet .waiting ≡ true → counts k c ≡ true
+    → Free (effect k c .core) ⊎ ((effect k c .answer .ready ≡ false) × (copiesOfPage (effect k c .core) ≡ copiesOfPage k))
+unfolding counts perform doRelease doTally tallying copiesOfPage copyAt linesNow
 page-stays k (command i) w e =
     absurd (true≢false (sym w ∙ was-free {q = traitsOf (decode (i .byte)) .quiet} (not-true _ (every-at 1 _ e)) (allowed k i (every-at 0 _ e) .free)))
 page-stays k (compose n out) w e = absurd (false≢true e)
-page-stays k release w e = refl
+page-stays k release w e = inl (rw (accepted-effect k release e) (released-free k))
+page-stays k (tally t) w e = inr (rw (accepted-effect k (tally t) e) (refl, refl))
 
--- After any list of calls, if a page waits, its copies are those that the last deed gave.
-abbrev pub nothingYet : Given
-nothingYet = record { answer = only Accepted 0; page = [] }
+-- The copies of the page that the last deed to complete one gave.
+unfoldable pub lastPage : List Copy → List Given → List Copy
+lastPage p [] = p
+lastPage p (g ∷ gs) = lastPage (cond (g .answer .ready) (g .page) p) gs
 
+-- After any list of calls, if a page waits, its copies are those.
 abbrev pub Shown : Core → Since → Type 0
-Shown k s = k .state .sheet .waiting ≡ true → lastOr nothingYet (s .gave) .page ≡ copiesOfPage k
+Shown k s = k .state .sheet .waiting ≡ true → lastPage [] (s .gave) ≡ copiesOfPage k
 
-last-one : (d : Given) (l : List Given) (x : Given) → lastOr d (l ++ (x ∷ [])) ≡ x
-last-one d [] x = refl
-last-one d (y ∷ l) x = last-one y l x
-
-after-release : (k : Core) (c : Call) → c ≡ release → counts k c ≡ true → Free (effect k c .core)
-unfolding counts perform doRelease
-after-release k c e a = rw e (rw (accepted-effect k release (rw e at a)) (released-free k))
+last-one : (p : List Copy) (l : List Given) (x : Given) → lastPage p (l ++ (x ∷ [])) ≡ cond (x .answer .ready) (x .page) (lastPage p l)
+unfolding lastPage
+last-one p [] x = refl
+last-one p (y ∷ l) x = last-one (cond (y .answer .ready) (y .page) p) l x
 
 shown-note : (k : Core) (s : Since) (c : Call) → Blank k → Shown k s → Shown (effect k c .core) (note k s c)
 unfolding note given
@@ -73,7 +75,12 @@ shown-note k s c z h = go (finishesReset k c) refl (counts k c) refl (k .state .
   where
     go : (p : Bool) → finishesReset k c ≡ p → (q : Bool) → counts k c ≡ q → (w : Bool) → k .state .sheet .waiting ≡ w → Shown (effect k c .core) (note k s c)
     go true ep q eq w ew v = absurd (false≢true (sym (finished-free k c z ep) ∙ v))
-    go false ep true eq true ew v = absurd (false≢true (sym (after-release k c (page-stays k c ew eq) eq) ∙ v))
+    go false ep true eq true ew v = stays (page-stays k c ew eq)
+      where
+        stays : Free (effect k c .core) ⊎ ((effect k c .answer .ready ≡ false) × (copiesOfPage (effect k c .core) ≡ copiesOfPage k))
+            → lastPage [] (note k s c .gave) ≡ copiesOfPage (effect k c .core)
+        stays (inl f) = absurd (false≢true (sym f ∙ v))
+        stays (inr (r, same)) = rw (ep, eq, last-one, r, same) (h ew)
     go false ep true eq false ew v =
         let r : effect k c .answer .ready ≡ true = ready-exactly k c ∙ ap (λ (x : Bool). not x && effect k c .core .state .sheet .waiting) ew ∙ v in
         rw (ep, eq, last-one, r)

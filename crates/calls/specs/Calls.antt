@@ -12,27 +12,30 @@ use Rattle.numbers.specs.declared.Sense.{Sense}
 use Rattle.numbers.specs.declared.Checked.{Checked}
 use Rattle.numbers.specs.declared.Checked.the-variants.{Sound}
 use Rattle.numbers.specs.declared.Refusal.{Refusal}
-use Rattle.numbers.specs.declared.Refusal.the-variants.{Accepted, NotListed, BadRecord, PageWaiting, PageStarted, NoPage, BadIndex, TooShort, BadStore, TwoPages}
+use Rattle.numbers.specs.declared.Refusal.the-variants.{Accepted, NotListed, BadRecord, PageWaiting, PageStarted, NoPage, BadIndex, TooShort, BadStore, TwoPages, NoneBetween, MostBetween}
 use Rattle.numbers.specs.declared.SenseStep.the-variants.{Keep}
 use Rattle.numbers.specs.Numbers.{senseAfter, isAccepted, only, checked}
 use Rattle.movement.specs.declared.Moved.{Moved}
 use Rattle.movement.specs.Movement.{toTop}
 use Rattle.copies.specs.Copies.{copyCount, copyNumber, copyMark}
 use Rattle.legends.specs.Legends.{composed}
+use Rattle.counters.specs.declared.Tally.{Tally}
+use Rattle.counters.specs.Counters.{tallied, noneBetween, mostBetween, counted}
 use Rattle.calls.specs.declared.Command.{Command}
 use Rattle.calls.specs.declared.Command.the-variants.{Write, Move, Controls, Loads, Unlisted}
 use Rattle.calls.specs.declared.State.{State}
-use Rattle.calls.specs.Core.{Core, World, withState, withPage, withSheet, P, started}
+use Rattle.calls.specs.Core.{Core, World, withState, withPage, withSheet, withCounters, P, started}
 use Rattle.calls.specs.Commands.{Issued, decode, controlTraits, traitsOf, isUnlisted, isLoad}
 use Rattle.calls.specs.Contents.{coreOk}
 use Rattle.calls.specs.Reset.{blankSheet, noCells, reset}
 use Rattle.calls.specs.Effects.{Effect, nothing, refused, moveOf, standing, loadCheck, doCommand}
 
--- Calls: a command as it is issued; Compose, with a copy index from 1 and an output buffer; Release.
+-- Calls: a command as it is issued; Compose, with a copy index from 1 and an output buffer; Release. T-02: a report of a station, a cancel, a restart.
 pub data Call : Type 0 where
   command : Issued → Call
   compose : ℕ → List ℕ → Call
   release : Call
+  tally : Tally → Call
 
 -- Numbers, 2: the records that a write and a load cannot have. Control and immediate commands ignore theirs.
 abbrev pub badRecord : Command → Issued → Bool
@@ -80,14 +83,23 @@ composeTests k n out =
     ∷ when (ltb (length out) (lineBytes * P (k .state))) TooShort
     ∷ []
 
--- Numbers: the order of Release is 9, 6.
+-- Numbers, T-02: the order of Release is 9, 6, 13.
 abbrev pub releaseTests : Core → List (Option Refusal)
-releaseTests k = when (not (coreOk k)) BadStore ∷ when (not (k .state .sheet .waiting)) NoPage ∷ []
+releaseTests k =
+    when (not (coreOk k)) BadStore
+    ∷ when (not (k .state .sheet .waiting)) NoPage
+    ∷ when (mostBetween (k .state .counters)) MostBetween
+    ∷ []
+
+-- T-02: the order of a report is 9, 12. Cancel and restart, to which the second test never applies, have 9 alone.
+abbrev pub tallyTests : Core → Tally → List (Option Refusal)
+tallyTests k t = when (not (coreOk k)) BadStore ∷ when (noneBetween t (k .state .counters)) NoneBetween ∷ []
 
 abbrev pub testsOf : Core → Call → List (Option Refusal)
 testsOf k (command i) = commandTests k (decode (i .byte)) i
 testsOf k (compose n out) = composeTests k n out
 testsOf k release = releaseTests k
+testsOf k (tally t) = tallyTests k t
 
 -- Numbers: the first test of the order that holds gives the number.
 unfoldable pub refusalOf : Core → Call → Refusal
@@ -119,23 +131,36 @@ doCompose k n =
 unfoldable pub emptied : Core → Core
 emptied k = withPage (withState k (withSheet (k .state) (blankSheet (k .state .sheet .line)))) noCells
 
+-- T-02: it counts the page into the channel counter first.
+unfoldable pub pageCounted : Core → Core
+pageCounted k = withState k (withCounters (k .state) (counted (k .state .counters)))
+
 unfoldable pub released : Core → Core
-released k = cond (k .state .sheet .due) (reset (emptied k)) (emptied k)
+released k = let c = pageCounted k in cond (k .state .sheet .due) (reset (emptied c)) (emptied c)
 
 unfoldable pub doRelease : Core → Effect
 doRelease k = record { answer = only Accepted 0; core = released k; sense = Keep; front = nothing }
+
+-- T-02: a report, a cancel, a restart: each changes the counters alone.
+unfoldable pub tallying : Core → Tally → Core
+tallying k t = withState k (withCounters (k .state) (tallied t (k .state .counters)))
+
+unfoldable pub doTally : Core → Tally → Effect
+doTally k t = record { answer = only Accepted 0; core = tallying k t; sense = Keep; front = nothing }
 
 -- Calls: each accepted one.
 unfoldable pub perform : Core → Call → Effect
 perform k (command i) = doCommand k (decode (i .byte)) i
 perform k (compose n out) = doCompose k n
 perform k release = doRelease k
+perform k (tally t) = doTally k t
 
 -- Form and forms control: the byte count that the sum's load check shows.
 abbrev pub sizeOf : Call → ℕ
 sizeOf (command i) = length (i .sent)
 sizeOf (compose n out) = 0
 sizeOf release = 0
+sizeOf (tally t) = 0
 
 -- Calls, Numbers: what a call does, by the core alone.
 unfoldable pub effect : Core → Call → Effect
@@ -146,6 +171,7 @@ abbrev pub lent : Call → List ℕ
 lent (command i) = i .reply
 lent (compose n out) = out
 lent release = []
+lent (tally t) = []
 
 abbrev pub over : List ℕ → List ℕ → List ℕ
 over xs buffer = xs ++ drop (length xs) buffer

@@ -1,4 +1,5 @@
--- Document 01, "Numbers": contents no printer has, clause by clause in the paper's order. Every definition here is of that section. No
+-- Document 01, "Numbers": contents no printer has, clause by clause in the paper's order, and after them T-02's, that calls can lead to the counters.
+-- Every definition here is of that section. No
 -- clause looks at the sense, at a cell, at a table's byte or at legend text: all of these are allowed.
 use Prim.Native.Nat.{ℕ}
 use mathlib.Core.Bool.{Bool, not, _&&_, _||_}
@@ -10,6 +11,7 @@ use Rattle.form.specs.Form.{formOk, fcbCheck, fcbNow, formsInRange}
 use Rattle.line.specs.Line.{slotsInRange}
 use Rattle.copies.specs.Copies.{sequenceCheck, sequenceNow, copiesInRange}
 use Rattle.legends.specs.Legends.{legendsOk}
+use Rattle.counters.specs.Counters.{countersOk}
 use Rattle.calls.specs.declared.Sheet.{Sheet}
 use Rattle.calls.specs.declared.State.{State}
 use Rattle.calls.specs.Core.{Core, sizesOk, P}
@@ -53,6 +55,7 @@ clauses k =
     ∷ formsOk (k .state)
     ∷ sequenceOk (k .state)
     ∷ legendsOk (k .stores .legends)
+    ∷ countersOk (k .state .counters)
     ∷ []
 
 unfoldable pub coreOk : Core → Bool

@@ -12,6 +12,7 @@ use Rattle.form.specs.declared.Forms.{Forms}
 use Rattle.form.specs.Form.{fcbNow, printable, layoutOf}
 use Rattle.line.specs.declared.Slots.{Slots}
 use Rattle.copies.specs.declared.Copies.{Copies}
+use Rattle.counters.specs.declared.Counters.{Counters}
 use Rattle.calls.specs.declared.Sheet.{Sheet}
 use Rattle.calls.specs.declared.State.{State}
 
@@ -50,19 +51,22 @@ abbrev pub withTables : Core → List ℕ → Core
 withTables k t = record { state = k .state; stores = record { page = k .stores .page; legends = k .stores .legends; tables = t } }
 
 abbrev pub withBlocked : State → Bool → State
-withBlocked s b = record { fixed = s .fixed; blocked = b; forms = s .forms; slots = s .slots; copies = s .copies; sheet = s .sheet }
+withBlocked s b = record { fixed = s .fixed; blocked = b; forms = s .forms; slots = s .slots; copies = s .copies; sheet = s .sheet; counters = s .counters }
 
 abbrev pub withForms : State → Forms → State
-withForms s f = record { fixed = s .fixed; blocked = s .blocked; forms = f; slots = s .slots; copies = s .copies; sheet = s .sheet }
+withForms s f = record { fixed = s .fixed; blocked = s .blocked; forms = f; slots = s .slots; copies = s .copies; sheet = s .sheet; counters = s .counters }
 
 abbrev pub withSlots : State → Slots → State
-withSlots s t = record { fixed = s .fixed; blocked = s .blocked; forms = s .forms; slots = t; copies = s .copies; sheet = s .sheet }
+withSlots s t = record { fixed = s .fixed; blocked = s .blocked; forms = s .forms; slots = t; copies = s .copies; sheet = s .sheet; counters = s .counters }
 
 abbrev pub withCopies : State → Copies → State
-withCopies s c = record { fixed = s .fixed; blocked = s .blocked; forms = s .forms; slots = s .slots; copies = c; sheet = s .sheet }
+withCopies s c = record { fixed = s .fixed; blocked = s .blocked; forms = s .forms; slots = s .slots; copies = c; sheet = s .sheet; counters = s .counters }
 
 abbrev pub withSheet : State → Sheet → State
-withSheet s x = record { fixed = s .fixed; blocked = s .blocked; forms = s .forms; slots = s .slots; copies = s .copies; sheet = x }
+withSheet s x = record { fixed = s .fixed; blocked = s .blocked; forms = s .forms; slots = s .slots; copies = s .copies; sheet = x; counters = s .counters }
+
+abbrev pub withCounters : State → Counters → State
+withCounters s c = record { fixed = s .fixed; blocked = s .blocked; forms = s .forms; slots = s .slots; copies = s .copies; sheet = s .sheet; counters = c }
 
 -- Form and forms control: the bytes of the printable lines of the form as it stands, and P.
 unfoldable pub linesNow : State → List ℕ

@@ -9,6 +9,7 @@ use Rattle.form.specs.Form.{startFcb, formsOf}
 use Rattle.line.specs.Line.{startSlots, startTables}
 use Rattle.copies.specs.Copies.{startCopies}
 use Rattle.legends.specs.Legends.{noLegends}
+use Rattle.counters.specs.declared.Counters.{Counters}
 use Rattle.calls.specs.declared.Fixed.{Fixed}
 use Rattle.calls.specs.declared.Sheet.{Sheet}
 use Rattle.calls.specs.declared.State.{State}
@@ -21,17 +22,18 @@ blankSheet l = record { line = l; written = false; waiting = false; due = false 
 unfoldable pub noCells : List ℕ
 noCells = zeros pageSize
 
--- What a reset keeps of a state, besides what Start fixed: the check switch.
+-- What a reset keeps of a state, besides what Start fixed: the check switch, and the page counters (T-02).
 pub record Kept : Type 0 where
   pub blocked : Bool
+  pub counters : Counters
 
 abbrev pub keptOf : State → Kept
-keptOf s = record { blocked = s .blocked }
+keptOf s = record { blocked = s .blocked; counters = s .counters }
 
 -- The reset. Of what was before, it looks at what Start fixed, at what it keeps, and at the page's bytes, and at nothing else.
 unfoldable pub resetState : Fixed → Kept → State
 resetState f k =
-    record { fixed = f; blocked = k .blocked; forms = formsOf (startFcb (f .length)); slots = startSlots; copies = startCopies; sheet = blankSheet 1 }
+    record { fixed = f; blocked = k .blocked; forms = formsOf (startFcb (f .length)); slots = startSlots; copies = startCopies; sheet = blankSheet 1; counters = k .counters }
 
 unfoldable pub resetStores : List ℕ → Stores
 resetStores page = record { page = page; legends = noLegends; tables = startTables }

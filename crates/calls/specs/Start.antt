@@ -10,6 +10,7 @@ use Rattle.numbers.specs.declared.Refusal.the-variants.{Accepted, BadStore, Bad
 use Rattle.numbers.specs.Numbers.{noSense, rowOf, isAccepted, only}
 use Rattle.form.specs.Form.{formOk, fcbSize}
 use Rattle.copies.specs.Copies.{pairSize}
+use Rattle.counters.specs.Counters.{startCounters}
 use Rattle.calls.specs.declared.Fixed.{Fixed}
 use Rattle.calls.specs.declared.State.{State}
 use Rattle.calls.specs.Core.{Stores, sizesOk, World}
@@ -37,9 +38,10 @@ startTests a m =
 unfoldable pub startRefusal : Asked → Stores → Refusal
 startRefusal a m = firstOr Accepted (startTests a m)
 
--- Calls, Reset and sense: what an accepted Start leaves: all as a reset leaves it, the page empty, the checks allowed, the sense clear.
+-- Calls, Reset and sense: what an accepted Start leaves: all as a reset leaves it, the page empty, the checks allowed, the sense clear; and the
+-- page counters at zero (T-02).
 abbrev pub startKept : Kept
-startKept = record { blocked = false }
+startKept = record { blocked = false; counters = startCounters }
 
 unfoldable pub startWorld : Asked → World
 startWorld a = record { core = fresh (fixedBy a) startKept; sense = noSense }
@@ -54,6 +56,7 @@ noState =
       slots = record { loaded = replicate 4 false; selected = 0 };
       copies = record { pairs = zeros pairSize; count = 0; reference = 0 };
       sheet = record { line = 0; written = false; waiting = false; due = false };
+      counters = startCounters;
     }
 
 unfoldable pub noPrinter : Stores → World

@@ -1,5 +1,6 @@
 // Document 01, "Calls", "Commands", "Reset and sense": what a printer holds, and what it is told to do.
 use copies::Copies;
+use counters::Counters;
 use form::Forms;
 use line::Slots;
 use movement::Motion;
@@ -29,6 +30,7 @@ pub struct State {
     pub slots: Slots,
     pub copies: Copies,
     pub sheet: Sheet,
+    pub counters: Counters,
 }
 
 // A command byte, decoded. Write is write and space or skip, Move the immediate form of both.

@@ -1,3 +1,4 @@
+pub mod CounterLaws
 mod Changes
 mod InPlace
 mod Lent

@@ -23,8 +23,8 @@ abbrev pub startCounters : Counters
 startCounters = counters 0 0 0 0
 
 -- A Release counts a page into the channel counter; the spooler reports pages passing the other three.
-unfoldable pub released : Counters → Counters
-released c = counters (next (c .channel)) (c .transfer) (c .fuser) (c .stacker)
+unfoldable pub counted : Counters → Counters
+counted c = counters (next (c .channel)) (c .transfer) (c .fuser) (c .stacker)
 
 unfoldable pub transferred : Counters → Counters
 transferred c = counters (c .channel) (next (c .transfer)) (c .fuser) (c .stacker)
@@ -68,8 +68,20 @@ pagesOut c = between (c .channel) (c .stacker)
 abbrev pub mostBetween : Counters → Bool
 mostBetween c = eqb (pagesOut c) mostPages
 
--- Refusal 9: counters that calls can reach. Seen from the stacker's, no counter is ahead of the one before it, and channel is ahead by 32,767 at most.
+-- Refusal 9: counters that calls can reach: two bytes each; seen from the stacker's, none is ahead of the one before it, and channel is ahead by 32,767
+-- at most.
+abbrev pub mostCount : ℕ
+mostCount = 65535
+
 unfoldable pub countersOk : Counters → Bool
 countersOk c =
     let ahead : ℕ → ℕ = λ n. between n (c .stacker) in
-    every (leb (ahead (c .fuser)) (ahead (c .transfer)) ∷ leb (ahead (c .transfer)) (ahead (c .channel)) ∷ leb (ahead (c .channel)) mostPages ∷ [])
+    every
+    (leb (c .channel) mostCount
+    ∷ leb (c .transfer) mostCount
+    ∷ leb (c .fuser) mostCount
+    ∷ leb (c .stacker) mostCount
+    ∷ leb (ahead (c .fuser)) (ahead (c .transfer))
+    ∷ leb (ahead (c .transfer)) (ahead (c .channel))
+    ∷ leb (ahead (c .channel)) mostPages
+    ∷ [])

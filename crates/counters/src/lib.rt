@@ -1,6 +1,6 @@
 // Document 02, T-02, "Page identifiers": the four counters by value, `stations`, which changes them in place, and `lending`, which lends them to it.
 ghost use mathlib.Core.Path.{_≡_};
-ghost use Rattle.counters.specs.Counters.{next, between, released, transferred, fused, stacked, cancelled, restarted, noneBetween, mostBetween, countersOk};
+ghost use Rattle.counters.specs.Counters.{next, between, counted, transferred, fused, stacked, cancelled, restarted, noneBetween, mostBetween, countersOk};
 
 pub mod lending;
 pub mod stations;
@@ -47,8 +47,9 @@ impl Counters {
     // As many pages may be between channel and stacker.
     pub const MOST_PAGES: u16 = 32767;
 
-    pub fn released(mut self) -> Counters
-        ensures { λ r. ⌜ r ≡ released self ⌝ }
+    // A Release counts its page.
+    pub fn counted(mut self) -> Counters
+        ensures { λ r. ⌜ r ≡ counted self ⌝ }
     {
         self.channel = next(self.channel);
         self
