@@ -57,5 +57,18 @@ pairsAt = sense0At + 5
 abbrev pub fcbAt : ℕ
 fcbAt = pairsAt + pairSize
 
+-- T-02: the page counters, two bytes each, high byte first.
+abbrev pub channelAt : ℕ
+channelAt = fcbAt + fcbSize
+
+abbrev pub transferAt : ℕ
+transferAt = channelAt + 2
+
+abbrev pub fuserAt : ℕ
+fuserAt = transferAt + 2
+
+abbrev pub stackerAt : ℕ
+stackerAt = fuserAt + 2
+
 abbrev pub stateSize : ℕ
-stateSize = fcbAt + fcbSize
+stateSize = stackerAt + 2

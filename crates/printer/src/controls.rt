@@ -84,7 +84,7 @@ impl Printer {
         self.no_op()
     }
 
-    // All but the page and the check switch as Start leaves it.
+    // All but the page, the check switch and the counters as Start leaves it.
     pub(crate) fn reset(mut self, legends: &mut [u8], tables: &mut [u8]) -> Printer
         requires { ⌜ Resets (self .state) (now legends) (now tables) ⌝ }
         ensures core { λ r. ⌜ ((p : List ℕ) → coreOf r (storesOf p (now (legends .exit)) (now (tables .exit)))
@@ -94,7 +94,7 @@ impl Printer {
         seq::fill(legends, 0);
         line::tables::start_tables(tables);
         let before = self.state;
-        let state = Printer::start_state(before.fixed, before.blocked);
+        let state = Printer::start_state(before.fixed, before.blocked, before.counters);
         self.state = state;
         self
     }

@@ -44,5 +44,13 @@ impl Printer {
 
     pub const FCB_AT: usize = Printer::PAIRS_AT + Copies::PAIR_BYTES;
 
-    pub const STATE_BYTES: usize = Printer::FCB_AT + Forms::FCB_BYTES;
+    pub const CHANNEL_AT: usize = Printer::FCB_AT + Forms::FCB_BYTES;
+
+    pub const TRANSFER_AT: usize = Printer::CHANNEL_AT + 2;
+
+    pub const FUSER_AT: usize = Printer::TRANSFER_AT + 2;
+
+    pub const STACKER_AT: usize = Printer::FUSER_AT + 2;
+
+    pub const STATE_BYTES: usize = Printer::STACKER_AT + 2;
 }

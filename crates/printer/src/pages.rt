@@ -1,7 +1,9 @@
-// What accepted calls of Compose and Release do with the page that waits.
+// What accepted calls of Compose and Release do with the page that waits, and what the calls of the stations, a cancel and a restart count.
 use crate::Printer;
 use crate::Step;
 use crate::moves;
+use counters::Tally;
+use counters::lending;
 use form::Layout;
 use numbers::Answer;
 use numbers::Refusal;
@@ -9,8 +11,8 @@ ghost use mathlib.Core.Path.{_≡_};
 ghost use mathlib.Core.List.{List};
 ghost use Prim.Native.Nat.{ℕ};
 ghost use Rattle.copies.specs.Copies.{copyMark};
-ghost use Rattle.calls.specs.Core.{storesOf};
-ghost use Rattle.calls.specs.Calls.{doCompose, doRelease, outcomeOf};
+ghost use Rattle.calls.specs.Core.{Stores, storesOf};
+ghost use Rattle.calls.specs.Calls.{doCompose, doRelease, doTally, outcomeOf};
 ghost use Rattle.printer.specs.Worlds.{coreOf, outcome, Did};
 ghost use Rattle.printer.specs.Premises.{Composes, Releases};
 
@@ -54,7 +56,7 @@ impl Printer {
         }
     }
 
-    // The page is empty again, and a reset that was due is done.
+    // The page is counted, and empty again; a reset that was due is done.
     pub fn release(mut self, page: &mut [u8], legends: &mut [u8], tables: &mut [u8]) -> Step
         requires { ⌜ Releases (self .state) (now page) (now legends) (now tables) ⌝ }
         ensures { λ r. ⌜ Did self (storesOf (now (page .entry)) (now (legends .entry)) (now (tables .entry))) r
@@ -65,6 +67,9 @@ impl Printer {
         seq::fill(page, 0);
         let blank = moves::blank_sheet(sheet.line);
         state.sheet = blank;
+        let before = state.counters;
+        let counters = before.counted();
+        state.counters = counters;
         self.state = state;
         if sheet.due {
             let fresh = self.reset(legends, tables);
@@ -73,6 +78,20 @@ impl Printer {
                 answer: Answer::only(Refusal::Accepted, 0),
             };
         }
+        Step {
+            printer: self,
+            answer: Answer::only(Refusal::Accepted, 0),
+        }
+    }
+
+    // A report, a cancel or a restart changes the counters alone.
+    pub fn tally(mut self, tally: Tally) -> Step
+        ensures { λ r. ⌜ ((m : Stores) → Did self m r m (λ k. doTally k tally)) ⌝ }
+    {
+        let mut state = self.state;
+        let counters = lending::tally(state.counters, tally);
+        state.counters = counters;
+        self.state = state;
         Step {
             printer: self,
             answer: Answer::only(Refusal::Accepted, 0),

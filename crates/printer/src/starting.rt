@@ -5,6 +5,7 @@ use calls::Fixed;
 use calls::Sheet;
 use calls::State;
 use copies::Copies;
+use counters::Counters;
 use form::Forms;
 use line::Slots;
 use numbers::Answer;
@@ -51,6 +52,7 @@ impl Printer {
                 waiting: false,
                 due: false,
             },
+            counters: Counters::START,
         },
         sense: Sense::CLEAR,
     };
@@ -68,10 +70,10 @@ impl Printer {
         }
     }
 
-    // The starting state on a listed form, which a reset puts back; the check switch stays.
-    pub(crate) fn start_state(fixed: Fixed, blocked: bool) -> State
+    // The starting state on a listed form, which a reset puts back; the check switch and the counters stay.
+    pub(crate) fn start_state(fixed: Fixed, blocked: bool, counters: Counters) -> State
         requires { ⌜ listed formLengths (fixed .length) ≡ true ⌝ }
-        ensures { λ r. ⌜ r ≡ resetState fixed (record { blocked = blocked }) ⌝ }
+        ensures { λ r. ⌜ r ≡ resetState fixed (record { blocked = blocked; counters = counters }) ⌝ }
     {
         let length = fixed.length;
         let forms = Printer::start_fcb(length);
@@ -87,10 +89,12 @@ impl Printer {
                 waiting: false,
                 due: false,
             },
+            counters: counters,
         }
     }
 
-    // All as a reset leaves it, with the page empty, the checks allowed and the sense clear, whatever printer there was.
+    // All as a reset leaves it, with the page empty, the checks allowed, the sense clear and the counters at zero, whatever
+    // printer there was.
     pub fn start(
         mut self,
         form: u32,
@@ -113,7 +117,7 @@ impl Printer {
         seq::fill(page, 0);
         seq::fill(legends, 0);
         line::tables::start_tables(tables);
-        let state = Printer::start_state(fixed, false);
+        let state = Printer::start_state(fixed, false, Counters::START);
         let sense = Sense::CLEAR;
         self.state = state;
         self.sense = sense;

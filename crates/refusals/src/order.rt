@@ -5,6 +5,8 @@ use calls::Fixed;
 use calls::Load;
 use calls::Sheet;
 use calls::State;
+use counters::Counters;
+use counters::Tally;
 use form::Layout;
 use numbers::Checked;
 use numbers::Refusal;
@@ -22,7 +24,7 @@ ghost use Rattle.calls.specs.Core.{Stores, Core, sizesOk, laidOut};
 ghost use Rattle.calls.specs.Commands.{issued};
 ghost use Rattle.calls.specs.Contents.{coreOk};
 ghost use Rattle.calls.specs.Effects.{loadCheck};
-ghost use Rattle.calls.specs.Calls.{badRecord, checkOf, commandTests, composeTests, releaseTests};
+ghost use Rattle.calls.specs.Calls.{badRecord, checkOf, commandTests, composeTests, releaseTests, tallyTests};
 ghost use Rattle.calls.specs.Start.{asked, startRefusal};
 
 fn bad_record(command: Command, sent: &[u8]) -> bool
@@ -126,13 +128,27 @@ pub fn compose_refusal(state: State, form: Layout, copy: u32, out: &[u8]) -> Ref
     Refusal::Accepted
 }
 
-// Refusal 6: no page is waiting.
+// Refusal 6: no page is waiting. 13: as many pages are out as there may be.
 pub fn release_refusal(state: State) -> Refusal
     ensures { λ r. ⌜ ((m : Stores) → coreOk (record { state = state; stores = m }) ≡ true
         → r ≡ firstOr Accepted (releaseTests (record { state = state; stores = m }))) ⌝ }
 {
     if !state.sheet.waiting {
         return Refusal::NoPage;
+    }
+    let counters = state.counters;
+    if counters.most_between() {
+        return Refusal::MostBetween;
+    }
+    Refusal::Accepted
+}
+
+// Refusal 12: no page is between the station that a report is for and the one before it.
+pub fn tally_refusal(counters: Counters, tally: Tally) -> Refusal
+    ensures { λ r. ⌜ ((k : Core) → k .state .counters ≡ counters → coreOk k ≡ true → r ≡ firstOr Accepted (tallyTests k tally)) ⌝ }
+{
+    if counters.none_between(tally) {
+        return Refusal::NoneBetween;
     }
     Refusal::Accepted
 }
