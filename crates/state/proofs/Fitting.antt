@@ -30,7 +30,7 @@ use Rattle.calls.specs.Core.{Stores, Core, World, linesNow}
 use Rattle.calls.specs.Commands.{Issued}
 use Rattle.calls.specs.Contents.{coreOk}
 use Rattle.calls.specs.Effects.{Effect, refused, done, moveOf}
-use Rattle.calls.specs.Calls.{Call, command, compose, release, movement, refusalOf, copyAt, doCompose, doRelease, perform, sizeOf, effect, Outcome, step}
+use Rattle.calls.specs.Calls.{Call, command, compose, release, tally, movement, refusalOf, copyAt, doCompose, doRelease, doTally, perform, sizeOf, effect, Outcome, step}
 use Rattle.calls.specs.Start.{Asked, startRefusal, startOutcome}
 use Rattle.calls.specs.Premises.{Allowed}
 use Rattle.calls.proofs.Good.{good, few-now}
@@ -122,10 +122,11 @@ copy-fits k n out h e =
 
 -- every accepted call
 perform-fits : (k : Core) (c : Call) → k .state .copies .reference ≤ 255 → isAccepted (refusalOf k c) ≡ true → Fits (perform k c .answer)
-unfolding perform doRelease
+unfolding perform doRelease doTally
 perform-fits k (command i) h e = command-fits (allowed k i e) (performed k i e)
 perform-fits k (compose n out) h e = copy-fits k n out h e
 perform-fits k release h e = only-fits Accepted 0 (lit≤ tt)
+perform-fits k (tally t) h e = only-fits Accepted 0 (lit≤ tt)
 
 -- Every answer fits its fields, on a state whose copy number reference is a byte; Start's always does.
 pub step-fits : (w : World) (c : Call) → w .core .state .copies .reference ≤ 255 → Fits (step w c .answer)

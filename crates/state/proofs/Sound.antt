@@ -9,6 +9,7 @@ use Rattle.form.specs.Form.{formOk, formsInRange}
 use Rattle.line.specs.Line.{slotsInRange}
 use Rattle.copies.specs.Copies.{copiesInRange}
 use Rattle.legends.specs.Legends.{legendsOk}
+use Rattle.counters.specs.Counters.{countersOk}
 use Rattle.calls.specs.declared.State.{State}
 use Rattle.calls.specs.Core.{Stores, sizesOk, P}
 use Rattle.calls.specs.Contents.{lineOk, rangesOk, dueOk, writtenOk, formsOk, sequenceOk, coreOk}
@@ -18,18 +19,19 @@ use Rattle.state.specs.State.{stateAt, coreAt, readable}
 use Rattle.state.proofs.Round.{readable-size}
 use Rattle.state.specs.Contents.{soundBytes, stateOk, fieldsOk, copiesOk, formsLineOk}
 
--- fixed, slots, due, mark; copies, sequence; forms, line, FCB
-regroup : (f s d m c q i l b : Bool)
-    → ((f && (i && (s && (c && l)))) && (d && (m && (b && q)))) ≡ ((f && (s && (d && m))) && ((c && q) && (i && (l && b))))
-regroup false s d m c q i l b = refl
-regroup true false d m c q i l b = simp and-false
-regroup true true false m c q i l b = simp and-false
-regroup true true true false c q i l b = simp and-false
-regroup true true true true false q i l b = simp and-false
-regroup true true true true true false i l b = simp and-false
-regroup true true true true true true false l b = refl
-regroup true true true true true true true false b = refl
-regroup true true true true true true true true b = and-true b
+-- fixed, slots, due, mark, counters; copies, sequence; forms, line, FCB
+regroup : (f s d m n c q i l b : Bool)
+    → ((f && (i && (s && (c && l)))) && (d && (m && (b && (q && n))))) ≡ ((f && (s && (d && (m && n)))) && ((c && q) && (i && (l && b))))
+regroup false s d m n c q i l b = refl
+regroup true false d m n c q i l b = simp and-false
+regroup true true false m n c q i l b = simp and-false
+regroup true true true false n c q i l b = simp and-false
+regroup true true true true false c q i l b = simp and-false
+regroup true true true true true false q i l b = simp and-false
+regroup true true true true true true false i l b = simp and-false
+regroup true true true true true true true false l b = refl
+regroup true true true true true true true true false b = refl
+regroup true true true true true true true true true b = and-true b
 
 pub state-parts : (s : State) → stateOk s ≡ (fieldsOk s && (copiesOk s && formsLineOk s))
 unfolding stateOk fieldsOk copiesOk formsLineOk rangesOk every
@@ -37,25 +39,27 @@ state-parts s =
     let fixed = formOk (s .fixed .length) (s .fixed .pitches) in
     let x = s .sheet in
     simp and-true
-    (regroup fixed (slotsInRange (s .slots)) (dueOk x) (writtenOk x) (copiesInRange (s .copies)) (sequenceOk s)
+    (regroup fixed (slotsInRange (s .slots)) (dueOk x) (writtenOk x) (countersOk (s .counters)) (copiesInRange (s .copies)) (sequenceOk s)
     (formsInRange (s .forms)) (lineOk (P s) x) (formsOk s))
 
--- readable, sizes; ranges, due, mark, FCB, sequence; legends
-reorder : (r z a d m b q l : Bool) → (r && (z && (a && (d && (m && (b && (q && l))))))) ≡ (z && (r && ((a && (d && (m && (b && q)))) && l)))
-reorder r false a d m b q l = and-false r
-reorder r true false d m b q l = refl
-reorder r true true false m b q l = refl
-reorder r true true true false b q l = refl
-reorder r true true true true false q l = refl
-reorder r true true true true true false l = refl
-reorder r true true true true true true l = refl
+-- readable, sizes; ranges, due, mark, FCB, sequence; legends; counters
+reorder : (r z a d m b q l n : Bool)
+    → (r && (z && (a && (d && (m && (b && (q && (l && n)))))))) ≡ (z && (r && ((a && (d && (m && (b && (q && n))))) && l)))
+reorder r false a d m b q l n = and-false r
+reorder r true false d m b q l n = refl
+reorder r true true false m b q l n = refl
+reorder r true true true false b q l n = refl
+reorder r true true true true false q l n = refl
+reorder r true true true true true false l n = refl
+reorder r true true true true true true true n = simp and-true
+reorder r true true true true true true false n = simp and-false
 
 pub sound-parts : (s : List ℕ) (m : Stores) → soundBytes s m ≡ (sizesOk m && (readable s && (stateOk (stateAt s) && legendsOk (m .legends))))
 unfolding soundBytes coreOk stateOk every
 sound-parts s m =
     let p = stateAt s in
     simp and-true
-    (reorder (readable s) (sizesOk m) (rangesOk p) (dueOk (p .sheet)) (writtenOk (p .sheet)) (formsOk p) (sequenceOk p) (legendsOk (m .legends)))
+    (reorder (readable s) (sizesOk m) (rangesOk p) (dueOk (p .sheet)) (writtenOk (p .sheet)) (formsOk p) (sequenceOk p) (legendsOk (m .legends)) (countersOk (p .counters)))
 
 -- Sound bytes stand for a printer, and are as many as a state has; its contents are good.
 pub sound-read : (s : List ℕ) (m : Stores) → soundBytes s m ≡ true → readable s ≡ true

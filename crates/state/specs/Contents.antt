@@ -6,6 +6,7 @@ use Rattle.seq.specs.Words.{every}
 use Rattle.form.specs.Form.{formOk, formsInRange}
 use Rattle.line.specs.Line.{slotsInRange}
 use Rattle.copies.specs.Copies.{copiesInRange}
+use Rattle.counters.specs.Counters.{countersOk}
 use Rattle.calls.specs.declared.State.{State}
 use Rattle.calls.specs.Core.{Stores, P}
 use Rattle.calls.specs.Contents.{lineOk, rangesOk, dueOk, writtenOk, formsOk, sequenceOk, coreOk}
@@ -18,10 +19,10 @@ soundBytes s m = readable s && coreOk (coreAt s m)
 -- The clauses that are about the state, and the same by what the code looks at together (proofs/Sound): the small fields, the overlay sequence,
 -- the FCB with the current line.
 unfoldable pub stateOk : State → Bool
-stateOk s = every (rangesOk s ∷ dueOk (s .sheet) ∷ writtenOk (s .sheet) ∷ formsOk s ∷ sequenceOk s ∷ [])
+stateOk s = every (rangesOk s ∷ dueOk (s .sheet) ∷ writtenOk (s .sheet) ∷ formsOk s ∷ sequenceOk s ∷ countersOk (s .counters) ∷ [])
 
 unfoldable pub fieldsOk : State → Bool
-fieldsOk s = formOk (s .fixed .length) (s .fixed .pitches) && (slotsInRange (s .slots) && (dueOk (s .sheet) && writtenOk (s .sheet)))
+fieldsOk s = formOk (s .fixed .length) (s .fixed .pitches) && (slotsInRange (s .slots) && (dueOk (s .sheet) && (writtenOk (s .sheet) && countersOk (s .counters))))
 
 unfoldable pub copiesOk : State → Bool
 copiesOk s = copiesInRange (s .copies) && sequenceOk s

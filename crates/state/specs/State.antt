@@ -11,11 +11,13 @@ use Rattle.seq.specs.Words.{all, every}
 use Rattle.numbers.specs.declared.Sense.{Sense}
 use Rattle.form.specs.Form.{fcbSize}
 use Rattle.copies.specs.Copies.{pairSize}
+use Rattle.counters.specs.declared.Counters.{Counters}
+use Rattle.counters.specs.Counters.{counters}
 use Rattle.calls.specs.declared.Sheet.{Sheet}
 use Rattle.calls.specs.declared.State.{State}
-use Rattle.calls.specs.Core.{Stores, Core, World, withSheet}
+use Rattle.calls.specs.Core.{Stores, Core, World, withSheet, withCounters}
 use Rattle.printer.specs.declared.Printer.{Printer}
-use Rattle.printer.specs.Layout.{lengthAt, pitchesAt, blockedAt, fcbCountAt, loadedAt, selectedAt, pairCountAt, referenceAt, sheetAt, writtenAt, waitingAt, dueAt, sense0At, pairsAt, fcbAt, stateSize}
+use Rattle.printer.specs.Layout.{lengthAt, pitchesAt, blockedAt, fcbCountAt, loadedAt, selectedAt, pairCountAt, referenceAt, sheetAt, writtenAt, waitingAt, dueAt, sense0At, pairsAt, fcbAt, channelAt, transferAt, fuserAt, stackerAt, stateSize}
 
 -- Up to the sheet: all that most commands leave as it is. A flag is 1 or 0.
 abbrev pub frontBytes : State → List ℕ
@@ -51,13 +53,26 @@ sheetBytes x q =
     ∷ q .b23
     ∷ []
 
--- Both: all but the two arrays.
+-- Both: all but the two arrays and the counters.
 abbrev pub smallBytes : State → Sense → List ℕ
 smallBytes s q = frontBytes s ++ sheetBytes (s .sheet) q
 
--- And all: then the overlay sequence's pairs and the FCB's bytes.
+-- T-02: the counters, high byte first.
+abbrev pub counterBytes : Counters → List ℕ
+counterBytes c =
+    c .channel / 256
+    ∷ c .channel % 256
+    ∷ c .transfer / 256
+    ∷ c .transfer % 256
+    ∷ c .fuser / 256
+    ∷ c .fuser % 256
+    ∷ c .stacker / 256
+    ∷ c .stacker % 256
+    ∷ []
+
+-- And all: then the overlay sequence's pairs, the FCB's bytes and the counters.
 unfoldable pub bytesOf : State → Sense → List ℕ
-bytesOf s q = smallBytes s q ++ (s .copies .pairs ++ s .forms .fcb)
+bytesOf s q = smallBytes s q ++ (s .copies .pairs ++ (s .forms .fcb ++ counterBytes (s .counters)))
 
 abbrev pub printerBytes : Printer → List ℕ
 printerBytes p = bytesOf (p .state) (p .sense)
@@ -90,6 +105,7 @@ stateAt s =
           };
       copies = record { pairs = take pairSize (drop pairsAt s); count = byteAt s pairCountAt; reference = byteAt s referenceAt };
       sheet = record { line = byteAt s sheetAt; written = flagAt s writtenAt; waiting = flagAt s waitingAt; due = flagAt s dueAt };
+      counters = counters (pairAt s channelAt) (pairAt s transferAt) (pairAt s fuserAt) (pairAt s stackerAt);
     }
 
 unfoldable pub senseAt : List ℕ → Sense
@@ -122,7 +138,8 @@ flagPlaces = blockedAt ∷ loadedAt ∷ (loadedAt + 1) ∷ (loadedAt + 2) ∷ (l
 unfoldable pub readable : List ℕ → Bool
 readable s = every (eqb (length s) stateSize ∷ all (λ n. leb (byteAt s n) 1) flagPlaces ∷ [])
 
--- What a printer may differ in from the one that bytes stand for, where only a part of it is put back: in its sheet and its sense; in all but its arrays.
+-- What a printer may differ in from the one that bytes stand for, where only a part of it is put back: in its sheet and its sense; in all but its arrays
+-- and its counters; in its counters.
 pub record OwnSheet (p : Printer) (s : List ℕ) : Type 0 where
   pub read : readable s ≡ true
   pub same : p .state ≡ withSheet (stateAt s) (p .state .sheet)
@@ -131,3 +148,9 @@ pub record SameArrays (p : Printer) (s : List ℕ) : Type 0 where
   pub read : readable s ≡ true
   pub pairs : p .state .copies .pairs ≡ stateAt s .copies .pairs
   pub fcb : p .state .forms .fcb ≡ stateAt s .forms .fcb
+  pub counters : p .state .counters ≡ stateAt s .counters
+
+pub record OwnCounters (p : Printer) (s : List ℕ) : Type 0 where
+  pub read : readable s ≡ true
+  pub same : p .state ≡ withCounters (stateAt s) (p .state .counters)
+  pub sense : p .sense ≡ senseAt s

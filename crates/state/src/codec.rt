@@ -3,6 +3,7 @@ use calls::Fixed;
 use calls::Sheet;
 use calls::State;
 use copies::Copies;
+use counters::Counters;
 use form::Forms;
 use line::Slots;
 use numbers::Answer;
@@ -15,9 +16,9 @@ ghost use mathlib.Core.List.{_++_};
 ghost use lib.ListN.{length, take, drop};
 ghost use lib.Dec.{leb};
 ghost use Rattle.seq.specs.Words.{all};
-ghost use Rattle.printer.specs.Layout.{pairsAt, fcbAt, sheetAt, stateSize};
-ghost use Rattle.state.specs.State.{frontBytes, sheetBytes, smallBytes, printerBytes, byteAt, flagPlaces, readable, stateAt, printerAt};
-ghost use Rattle.state.specs.State.{OwnSheet, SameArrays};
+ghost use Rattle.printer.specs.Layout.{pairsAt, fcbAt, sheetAt, channelAt, stateSize};
+ghost use Rattle.state.specs.State.{frontBytes, sheetBytes, smallBytes, counterBytes, printerBytes, byteAt, flagPlaces, readable, stateAt, printerAt};
+ghost use Rattle.state.specs.State.{OwnSheet, SameArrays, OwnCounters};
 
 // Each flag is 0 or 1.
 fn flags_ok(s: &[u8]) -> bool
@@ -83,7 +84,7 @@ fn forms(s: &[u8]) -> Forms
     ensures { λ r. ⌜ r ≡ stateAt (now (s .entry)) .forms ⌝ }
 {
     let mut fcb = [0u8; Forms::FCB_BYTES];
-    seq::copy_all(&mut fcb, &s[Printer::FCB_AT..Printer::STATE_BYTES]);
+    seq::copy_all(&mut fcb, &s[Printer::FCB_AT..Printer::CHANNEL_AT]);
     Forms {
         fcb: fcb,
         count: s[Printer::FCB_COUNT_AT],
@@ -131,6 +132,18 @@ fn sense(s: &[u8]) -> Sense
     }
 }
 
+pub(crate) fn counters(s: &[u8]) -> Counters
+    requires { ⌜ length (now s) ≡ stateSize ⌝ }
+    ensures { λ r. ⌜ r ≡ stateAt (now (s .entry)) .counters ⌝ }
+{
+    Counters {
+        channel: pair(s[Printer::CHANNEL_AT], s[Printer::CHANNEL_AT + 1]),
+        transfer: pair(s[Printer::TRANSFER_AT], s[Printer::TRANSFER_AT + 1]),
+        fuser: pair(s[Printer::FUSER_AT], s[Printer::FUSER_AT + 1]),
+        stacker: pair(s[Printer::STACKER_AT], s[Printer::STACKER_AT + 1]),
+    }
+}
+
 // The printer that bytes stand for.
 pub fn decode(s: &[u8]) -> Printer
     requires { ⌜ length (now s) ≡ stateSize ⌝ }
@@ -143,6 +156,7 @@ pub fn decode(s: &[u8]) -> Printer
         slots: slots(s),
         copies: copies(s),
         sheet: sheet(s),
+        counters: counters(s),
     };
     Printer {
         state: state,
@@ -193,7 +207,7 @@ fn lay_sheet(sheet: Sheet, sense: Sense, s: &mut [u8])
     seq::copy_all(&mut s[Printer::SHEET_AT..Printer::PAIRS_AT], &bytes);
 }
 
-// The bytes of all but the arrays.
+// The bytes of all but the arrays and the counters.
 fn lay_small(p: Printer, s: &mut [u8])
     requires { ⌜ length (now s) ≡ stateSize ⌝ }
     ensures { λ _. ⌜ now (s .exit) ≡ smallBytes (p .state) (p .sense) ++ drop pairsAt (now (s .entry)) ⌝ }
@@ -215,10 +229,28 @@ fn lay_pairs(copies: Copies, s: &mut [u8])
 
 fn lay_fcb(forms: Forms, s: &mut [u8])
     requires { ⌜ length (now s) ≡ stateSize ⌝ }
-    ensures { λ _. ⌜ now (s .exit) ≡ take fcbAt (now (s .entry)) ++ forms .fcb ⌝ }
+    ensures { λ _. ⌜ now (s .exit) ≡ take fcbAt (now (s .entry)) ++ (forms .fcb ++ drop channelAt (now (s .entry))) ⌝ }
 {
     let fcb = forms.fcb;
-    seq::copy_all(&mut s[Printer::FCB_AT..Printer::STATE_BYTES], &fcb);
+    seq::copy_all(&mut s[Printer::FCB_AT..Printer::CHANNEL_AT], &fcb);
+}
+
+// The bytes of the counters.
+fn lay_counters(counters: Counters, s: &mut [u8])
+    requires { ⌜ length (now s) ≡ stateSize ⌝ }
+    ensures { λ _. ⌜ now (s .exit) ≡ take channelAt (now (s .entry)) ++ counterBytes counters ⌝ }
+{
+    let bytes = [
+        (counters.channel / 256) as u8,
+        (counters.channel % 256) as u8,
+        (counters.transfer / 256) as u8,
+        (counters.transfer % 256) as u8,
+        (counters.fuser / 256) as u8,
+        (counters.fuser % 256) as u8,
+        (counters.stacker / 256) as u8,
+        (counters.stacker % 256) as u8,
+    ];
+    seq::copy_all(&mut s[Printer::CHANNEL_AT..Printer::STATE_BYTES], &bytes);
 }
 
 // A step's printer back into the state, where no more than its sheet and its sense can have changed: nine bytes.
@@ -232,13 +264,24 @@ pub fn put_sheet(step: Step, s: &mut [u8]) -> Answer
     step.answer
 }
 
-// Where its arrays cannot have changed.
+// Where neither its arrays nor its counters can have changed.
 pub fn put_small(step: Step, s: &mut [u8]) -> Answer
     requires { ⌜ SameArrays (step .printer) (now s) ⌝ }
     ensures answer { λ r. ⌜ r ≡ step .answer ⌝ }
     ensures state { λ _. ⌜ now (s .exit) ≡ printerBytes (step .printer) ⌝ }
 {
     lay_small(step.printer, s);
+    step.answer
+}
+
+// Where its counters alone can have changed: eight bytes.
+pub fn put_counters(step: Step, s: &mut [u8]) -> Answer
+    requires { ⌜ OwnCounters (step .printer) (now s) ⌝ }
+    ensures answer { λ r. ⌜ r ≡ step .answer ⌝ }
+    ensures state { λ _. ⌜ now (s .exit) ≡ printerBytes (step .printer) ⌝ }
+{
+    let p = step.printer;
+    lay_counters(p.state.counters, s);
     step.answer
 }
 
@@ -250,6 +293,7 @@ pub fn put_all(step: Step, s: &mut [u8]) -> Answer
 {
     let p = step.printer;
     let state = p.state;
+    lay_counters(state.counters, s);
     lay_fcb(state.forms, s);
     lay_pairs(state.copies, s);
     lay_small(p, s);

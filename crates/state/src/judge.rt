@@ -7,6 +7,7 @@ ghost use mathlib.Core.Path.{_≡_};
 ghost use mathlib.Core.Bool.{true, _&&_};
 ghost use lib.ListN.{length};
 ghost use Rattle.form.specs.Form.{formOk, formsInRange};
+ghost use Rattle.counters.specs.Counters.{countersOk};
 ghost use Rattle.calls.specs.Core.{storesOf, sizesOk, laidOut};
 ghost use Rattle.calls.specs.Contents.{dueOk, writtenOk};
 ghost use Rattle.printer.specs.Layout.{stateSize};
@@ -72,14 +73,23 @@ fn sheet_ok(s: &[u8]) -> bool
     (!sheet.due | sheet.waiting) & !(sheet.written & sheet.waiting)
 }
 
+fn counters_ok(s: &[u8]) -> bool
+    requires { ⌜ length (now s) ≡ stateSize ⌝ }
+    ensures { λ r. ⌜ r ≡ countersOk (stateAt (now (s .entry)) .counters) ⌝ }
+{
+    let counters = codec::counters(s);
+    counters.is_reachable()
+}
+
 // The form length and the pitches, which take longest, come last.
 fn fields_ok(s: &[u8]) -> bool
     requires { ⌜ length (now s) ≡ stateSize ⌝ }
     ensures { λ r. ⌜ r ≡ fieldsOk (stateAt (now (s .entry))) ⌝ }
 {
     let sheet = sheet_ok(s);
+    let counters = counters_ok(s);
     let slots = (s[Printer::LOADED_AT] == 1) & (s[Printer::SELECTED_AT] <= 3);
-    if !(slots & sheet) {
+    if !(slots & (sheet & counters)) {
         return false;
     }
     fixed_ok(s)
@@ -104,7 +114,7 @@ fn lay_out(s: &[u8]) -> Judged
     let fixed = codec::fixed(s);
     form::fcb::judge(
         fixed.length,
-        &s[Printer::FCB_AT..Printer::STATE_BYTES],
+        &s[Printer::FCB_AT..Printer::CHANNEL_AT],
         s[Printer::FCB_COUNT_AT],
     )
 }

@@ -6,7 +6,7 @@ use Rattle.state.proofs.codec.decode.Tie as tie
 
 returns : tie.Need-returns
 unfolding stateAt
-returns c = rw (c .sense .ensures, c .before .sheet .ensures, c .before .before .copies .ensures, c .before .before .before .slots .ensures, c .before .before .before .before .forms .ensures, c .before .before .before .before .before .before .fixed .ensures)
+returns c = rw (c .sense .ensures, c .before .counters .ensures, c .before .before .sheet .ensures, c .before .before .before .copies .ensures, c .before .before .before .before .slots .ensures, c .before .before .before .before .before .forms .ensures, c .before .before .before .before .before .before .before .fixed .ensures)
 
 pub decode-spec : {M : Type 1} → statement M
 decode-spec =
@@ -14,6 +14,7 @@ decode-spec =
     (tie.spec
     (λ c κs. search needs)
     (λ c. search needs)
+    (λ c κs. search needs)
     (λ c κs. search needs)
     (λ c κs. search needs)
     (λ c κs. search needs)

@@ -1,8 +1,7 @@
--- The array over its place, which is the last.
+-- The array over its place.
 use mathlib.Core.Path.{_≡_, sym, _∙_}
-use mathlib.Core.List.{append-nil}
 use native.Mathlib.Omega.{arith}
-use lib.ListN.{length, drop, length-drop, drop-of-length-le}
+use lib.ListN.{length, drop, length-drop}
 use lib.Seq.{drop-drop, length-take-le}
 use Rattle.form.specs.Form.{fcbSize}
 use Rattle.printer.specs.Layout.{fcbAt}
@@ -16,9 +15,6 @@ long c = search needs
 copy-all-requires : tie.Need-copy-all-requires
 copy-all-requires c κs = let s = c .before .before .before .before in length-take-le fcbSize (drop fcbAt (s .args .s .now)) (simp length-drop (omega (arith, s .pre))) ∙ sym (long s)
 
-returns : tie.Need-returns
-returns c = let s = c .before .before .before .before .before .before .before in rw (c .before .before .copy-all .ensures, drop-of-length-le (drop fcbAt (s .args .s .now)) {i = fcbSize} (simp length-drop (omega (arith, s .pre))), append-nil (s .args .forms .fcb))
-
 pub lay-fcb-spec : {M : Type 1} → statement M
 lay-fcb-spec =
     tie.close
@@ -29,4 +25,4 @@ lay-fcb-spec =
     (λ c. search needs)
     copy-all-requires
     (λ c. search needs)
-    returns)
+    (λ c. rw (c .before .before .copy-all .ensures, drop-drop fcbSize fcbAt (c .before .before .before .before .before .before .before .args .s .now))))

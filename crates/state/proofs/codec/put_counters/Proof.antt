@@ -1,0 +1,13 @@
+-- Law `put-counters-bytes`.
+use native.Mathlib.Omega.{arith}
+use mathlib.Core.Path.{refl, _∙_}
+use Rattle.state.proofs.Round.{readable-size, put-counters-bytes}
+use borrow.Author.Needs.{needs}
+use Rattle.state.proofs.codec.put_counters.Statement.{statement}
+use Rattle.state.proofs.codec.put_counters.Tie as tie
+
+returns : tie.Need-returns
+returns c = (refl, c .before .before .before .lay-counters .ensures ∙ put-counters-bytes _ _ (λ n. omega (arith, c .before .before .before .before .before .before .slice-known .given n)) (c .before .before .before .before .before .before .before .pre))
+
+pub put-counters-spec : {M : Type 1} → statement M
+put-counters-spec = tie.close (tie.spec (λ c κs. readable-size _ (c .before .before .before .pre .read)) (λ c. search needs) returns)
