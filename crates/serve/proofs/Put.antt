@@ -5,30 +5,38 @@ use mathlib.Core.Bool.{Bool, true, false, cond}
 use mathlib.Core.List.{List}
 use Rattle.numbers.specs.declared.Answer.{Answer}
 use Rattle.numbers.specs.declared.Refusal.{Refusal}
+use Rattle.numbers.specs.declared.SenseStep.the-variants.{Keep}
+use Rattle.numbers.specs.Numbers.{senseAfter}
 use Rattle.movement.specs.declared.Motion.{Motion}
 use Rattle.movement.specs.Movement.{toTop}
 use Rattle.line.specs.Line.{noCauses}
 use Rattle.copies.specs.Copies.{withReference}
+use Rattle.counters.specs.declared.Tally.{Tally}
 use Rattle.calls.specs.declared.Control.the-variants.{SenseIo, Clear, Block, Allow, Select}
 use Rattle.calls.specs.declared.Load.the-variants.{TranslateTable, CopyModification, CopyNumber}
 use Rattle.calls.specs.declared.State.{State}
-use Rattle.calls.specs.Core.{Stores, Core, withSheet, started}
+use Rattle.calls.specs.Core.{Stores, Core, withSheet, withCounters, started}
 use Rattle.calls.specs.Effects.{Effect, refused, done, movedCore, doMove, written, doWrite, standing, completing, loaded, doLoad, doControl}
-use Rattle.calls.specs.Calls.{Outcome, outcomeOf}
+use Rattle.calls.specs.Calls.{tallying, doTally, Outcome, outcomeOf}
 use Rattle.printer.specs.declared.Printer.{Printer}
 use Rattle.printer.specs.declared.Step.{Step}
 use Rattle.printer.specs.Worlds.{coreOf, outcome}
-use Rattle.state.specs.State.{printerBytes, stateAt, senseAt, coreAt, worldAt, printerAt, Bytes, readable, OwnSheet, SameArrays}
+use Rattle.state.specs.State.{printerBytes, stateAt, senseAt, coreAt, worldAt, printerAt, Bytes, readable, OwnSheet, SameArrays, OwnCounters}
 use Rattle.state.specs.Host.{left, shown, bytesIn}
 use Rattle.state.proofs.Round.{back}
 
--- An effect that changes nothing of a state but the sheet, and one that changes neither array.
+-- An effect that changes nothing of a state but the sheet; one that changes neither array and no counter; and one that changes the counters alone.
 abbrev pub SheetAlone : (Core → Effect) → Type 0
 SheetAlone f = (k : Core) → f k .core .state ≡ withSheet (k .state) (f k .core .state .sheet)
 
 pub record LeavesArrays (f : Core → Effect) : Type 0 where
   pub pairs : (k : Core) → f k .core .state .copies .pairs ≡ k .state .copies .pairs
   pub fcb : (k : Core) → f k .core .state .forms .fcb ≡ k .state .forms .fcb
+  pub counters : (k : Core) → f k .core .state .counters ≡ k .state .counters
+
+pub record CountersAlone (f : Core → Effect) : Type 0 where
+  pub state : (k : Core) → f k .core .state ≡ withCounters (k .state) (f k .core .state .counters)
+  pub sense : (k : Core) → f k .sense ≡ Keep
 
 module _ (s : List ℕ) {p : Printer} (d : p ≡ printerAt s) where
   -- what the method did is the effect on what the bytes stand for
@@ -61,6 +69,15 @@ module _ (s : List ℕ) {p : Printer} (d : p ≡ printerAt s) where
           read = e;
           pairs = ap (λ (t : State). t .copies .pairs) state-after ∙ leaves .pairs (coreAt s m);
           fcb = ap (λ (t : State). t .forms .fcb) state-after ∙ leaves .fcb (coreAt s m);
+          counters = ap (λ (t : State). t .counters) state-after ∙ leaves .counters (coreAt s m);
+        }
+
+    pub own-counters : readable s ≡ true → CountersAlone f → OwnCounters (r .printer) s
+    own-counters e alone =
+        record {
+          read = e;
+          same = state-after ∙ alone .state (coreAt s m) ∙ ap (λ (t : State). withCounters (stateAt s) (t .counters)) (sym state-after);
+          sense = ap (λ (o : Outcome). o .world .sense) (of-bytes b₀ m f h) ∙ ap (senseAfter (senseAt s)) (alone .sense (coreAt s m));
         }
 
 -- Effects that change the sheet alone: those of a refusal, of Sense and of Clear, of an immediate command and of a write.
@@ -90,27 +107,32 @@ pub write-alone : (m : Motion) (r : List ℕ) → SheetAlone (λ k. doWrite k m 
 unfolding doWrite done written
 write-alone m r k = refl
 
--- Effects that change neither array: those of Block, Allow and Select, and of the loads of a table, of legends and of the copy number.
+-- Effects that change neither array and no counter: those of Block, Allow and Select, and of the loads of a table, of legends and of the copy number.
 pub block-leaves : LeavesArrays (λ k. doControl k Block)
 unfolding doControl done
-block-leaves = record { pairs = λ k. refl; fcb = λ k. refl }
+block-leaves = record { pairs = λ k. refl; fcb = λ k. refl; counters = λ k. refl }
 
 pub allow-leaves : LeavesArrays (λ k. doControl k Allow)
 unfolding doControl done
-allow-leaves = record { pairs = λ k. refl; fcb = λ k. refl }
+allow-leaves = record { pairs = λ k. refl; fcb = λ k. refl; counters = λ k. refl }
 
 pub select-leaves : (n : ℕ) → LeavesArrays (λ k. doControl k (Select n))
 unfolding doControl done
-select-leaves n = record { pairs = λ k. refl; fcb = λ k. refl }
+select-leaves n = record { pairs = λ k. refl; fcb = λ k. refl; counters = λ k. refl }
 
 pub table-leaves : (r : List ℕ) → LeavesArrays (λ k. doLoad k TranslateTable r)
 unfolding doLoad done loaded
-table-leaves r = record { pairs = λ k. refl; fcb = λ k. refl }
+table-leaves r = record { pairs = λ k. refl; fcb = λ k. refl; counters = λ k. refl }
 
 pub legends-leave : (r : List ℕ) → LeavesArrays (λ k. doLoad k CopyModification r)
 unfolding doLoad done loaded
-legends-leave r = record { pairs = λ k. refl; fcb = λ k. refl }
+legends-leave r = record { pairs = λ k. refl; fcb = λ k. refl; counters = λ k. refl }
 
 pub number-leaves : (r : List ℕ) → LeavesArrays (λ k. doLoad k CopyNumber r)
 unfolding doLoad done loaded withReference
-number-leaves r = record { pairs = λ k. refl; fcb = λ k. refl }
+number-leaves r = record { pairs = λ k. refl; fcb = λ k. refl; counters = λ k. refl }
+
+-- Effects that change the counters alone: those of a report, a cancel and a restart.
+pub tally-alone : (t : Tally) → CountersAlone (λ k. doTally k t)
+unfolding doTally tallying
+tally-alone t = record { state = λ k. refl; sense = λ k. refl }

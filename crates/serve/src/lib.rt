@@ -3,6 +3,7 @@
 use calls::Command;
 use calls::Control;
 use calls::Load;
+use counters::Tally;
 use form::Layout;
 use movement::Motion;
 use numbers::Answer;
@@ -14,17 +15,19 @@ use state::answer;
 use state::codec;
 use state::judge;
 ghost use mathlib.Core.Path.{_≡_};
+ghost use mathlib.Core.Bool.{true};
 ghost use mathlib.Core.List.{List, [], _∷_};
 ghost use Prim.Native.Nat.{ℕ};
 ghost use lib.ListN.{length};
 ghost use Rattle.calls.specs.Core.{Stores, storesOf};
 ghost use Rattle.calls.specs.Commands.{issued};
+ghost use Rattle.calls.specs.Contents.{coreOk};
 ghost use Rattle.calls.specs.Effects.{refused, doMove, doWrite, doLoad, doControl, doCommand};
-ghost use Rattle.calls.specs.Calls.{command, compose, release, step};
+ghost use Rattle.calls.specs.Calls.{command, compose, release, tally, step};
 ghost use Rattle.calls.specs.Start.{asked, startOutcome};
 ghost use Rattle.printer.specs.Layout.{stateSize};
 ghost use Rattle.printer.specs.Premises.{Fit, Writes};
-ghost use Rattle.state.specs.State.{stateAt, worldAt};
+ghost use Rattle.state.specs.State.{stateAt, coreAt, worldAt};
 ghost use Rattle.state.specs.Host.{called, left, shown, callBytes, startBytes};
 ghost use Rattle.serve.specs.Served.{Readable, Judged, Accepts, Asks, AsksLoad, AsksControl, Served};
 
@@ -260,6 +263,37 @@ pub fn release(state: &mut [u8], page: &mut [u8], legends: &mut [u8], tables: &m
         return answer::unread();
     }
     answer::pack(release_page(found.form, state, page, legends, tables))
+}
+
+// A report, a cancel or a restart, on bytes that were judged good.
+fn keep_count(which: Tally, state: &mut [u8]) -> Answer
+    requires { ⌜ Readable (now state) ⌝ }
+    ensures { λ r. ⌜ ((m : Stores) → coreOk (coreAt (now (state .entry)) m) ≡ true
+        → left r [] (now (state .exit)) m ≡ shown (step (worldAt (now (state .entry)) m) (tally which))) ⌝ }
+{
+    let p = codec::decode(state);
+    let refusal = order::tally_refusal(p.state.counters, which);
+    if refusal.is_accepted() {
+        return codec::put_counters(p.tally(which), state);
+    }
+    refuse(refusal, 0, state)
+}
+
+pub fn tally(
+    which: Tally,
+    state: &mut [u8],
+    page: &[u8],
+    legends: &[u8],
+    tables: &[u8],
+) -> u64
+    ensures { λ r. ⌜ (let m = storesOf (now (page .entry)) (now (legends .entry)) (now (tables .entry)) in
+        called r [] (now (state .exit)) m ≡ callBytes (now (state .entry)) m (tally which)) ⌝ }
+{
+    let found = judge::judge(state, page, legends, tables);
+    if !found.sound {
+        return answer::unread();
+    }
+    answer::pack(keep_count(which, state))
 }
 
 // A Start on a state with room for one.
