@@ -5,37 +5,42 @@ use mathlib.Core.Bool.{Bool, true, false, cond, not, _&&_}
 use mathlib.Core.List.{List, [], _∷_, map}
 use lib.Dec.{eqb}
 use Rattle.seq.specs.Words.{every}
+use Rattle.counters.specs.Counters.{counted, tallied}
 use Rattle.calls.specs.declared.Control.{Control}
 use Rattle.calls.specs.declared.Control.the-variants.{NoOp, SenseIo, Initialize, Clear, Block, Allow, Select}
 use Rattle.calls.specs.declared.Command.{Command}
 use Rattle.calls.specs.declared.Command.the-variants.{Write, Move, Controls, Loads, Unlisted}
 use Rattle.calls.specs.Commands.{decode, traitsOf}
 use Rattle.calls.specs.Reset.{Kept}
-use Rattle.calls.specs.Calls.{Call, command, compose, release}
+use Rattle.calls.specs.Calls.{Call, command, compose, release, tally}
 use Rattle.calls.specs.Start.{startKept}
 use Rattle.calls.specs.Lists.{Deed, deedOf}
 use Rattle.state.specs.Host.{Called, Held, heldOf, callOn}
 use Rattle.trestlepip.specs.Host.{numberIn, readyIn}
 
--- What counts: accepted commands except No-Op and Sense, and accepted releases.
+-- What counts: accepted commands except No-Op and Sense, and accepted releases, reports, cancels and restarts.
 unfoldable pub countsBy : Call → ℕ → Bool
 countsBy (command i) answer = every (eqb (numberIn answer) 0 ∷ not (traitsOf (decode (i .byte)) .quiet) ∷ [])
 countsBy (compose n out) answer = false
 countsBy release answer = eqb (numberIn answer) 0
+countsBy (tally t) answer = eqb (numberIn answer) 0
 
 -- What finishes a reset: an Initialize that completed no page; or, where it completed one, so that a reset is due, the Release of that page.
 unfoldable pub finishesBy : Bool → Call → ℕ → Bool
 finishesBy due (command i) answer = every (countsBy (command i) answer ∷ traitsOf (decode (i .byte)) .resets ∷ not (readyIn answer) ∷ [])
 finishesBy due (compose n out) answer = false
 finishesBy due release answer = every (countsBy release answer ∷ due ∷ [])
+finishesBy due (tally t) answer = false
 
--- Whether a reset is due after a call that counts: after an Initialize that completed a page.
-unfoldable pub dueBy : Call → ℕ → Bool
-dueBy (command i) answer = traitsOf (decode (i .byte)) .resets && readyIn answer
-dueBy (compose n out) answer = false
-dueBy release answer = false
+-- Whether a reset is due after a call that counts: after an Initialize that completed a page; a report, a cancel and a restart leave it due.
+unfoldable pub dueBy : Bool → Call → ℕ → Bool
+dueBy due (command i) answer = traitsOf (decode (i .byte)) .resets && readyIn answer
+dueBy due (compose n out) answer = false
+dueBy due release answer = false
+dueBy due (tally t) answer = due
 
--- What a reset keeps, after a call that counts, which found it at k: Block and Allow set the data-check switch.
+-- What a reset keeps, after a call that counts, which found it at k: Block and Allow set the data-check switch; a release, a report, a cancel and a restart
+-- change the counters.
 unfoldable pub controlSwitch : Control → Bool → Bool
 controlSwitch NoOp b = b
 controlSwitch SenseIo b = b
@@ -53,9 +58,10 @@ commandSwitch (Loads l) b = b
 commandSwitch Unlisted b = b
 
 unfoldable pub keptBy : Call → Kept → Kept
-keptBy (command i) k = record { blocked = commandSwitch (decode (i .byte)) (k .blocked) }
+keptBy (command i) k = record { blocked = commandSwitch (decode (i .byte)) (k .blocked); counters = k .counters }
 keptBy (compose n out) k = k
-keptBy release k = k
+keptBy release k = record { blocked = k .blocked; counters = counted (k .counters) }
+keptBy (tally t) k = record { blocked = k .blocked; counters = tallied t (k .counters) }
 
 -- A call that counts: the deed, its packed answer, and what the host holds right after it.
 pub record Noted : Type 0 where
@@ -83,7 +89,7 @@ noteCall n c k =
       kept = cond finishes keeps (n .kept);
       calls = cond finishes [] (cond counts (record { deed = deedOf c; answer = k .answer; after = heldOf k } ∷ n .calls) (n .calls));
       keeps = keeps;
-      due = cond counts (dueBy c (k .answer)) (n .due);
+      due = cond counts (dueBy (n .due) c (k .answer)) (n .due);
     }
 
 unfoldable pub notesOver : Held → Notes → List Call → Notes

@@ -1,10 +1,12 @@
 // The printer for a C host: the calls on numbers and lent bytes. None asks anything of its caller, and the contract of each is one equation that
 // fixes the packed answer and every lent byte.
+use counters::Tally;
 ghost use mathlib.Core.Path.{_≡_};
 ghost use mathlib.Core.List.{[], _∷_};
+ghost use Rattle.counters.specs.declared.Tally.the-variants.{Transferred, Fused, Stacked, Cancel, Restart};
 ghost use Rattle.calls.specs.Core.{storesOf};
 ghost use Rattle.calls.specs.Commands.{issued};
-ghost use Rattle.calls.specs.Calls.{command, compose, release};
+ghost use Rattle.calls.specs.Calls.{command, compose, release, tally};
 ghost use Rattle.calls.specs.Start.{asked};
 ghost use Rattle.state.specs.Host.{called, callBytes, startBytes};
 
@@ -81,4 +83,74 @@ pub extern "C" fn trestlepip_release(
         ≡ callBytes (now (state .entry)) (storesOf (now (page .entry)) (now (legends .entry)) (now (tables .entry))) release ⌝ }
 {
     serve::release(state, page, legends, tables)
+}
+
+// A page passed the transfer station.
+#[no_mangle]
+pub extern "C" fn trestlepip_transferred(
+    state: &mut [u8],
+    page: &[u8],
+    legends: &[u8],
+    tables: &[u8],
+) -> u64
+    ensures { λ r. ⌜ (let m = storesOf (now (page .entry)) (now (legends .entry)) (now (tables .entry)) in
+        called r [] (now (state .exit)) m ≡ callBytes (now (state .entry)) m (tally Transferred)) ⌝ }
+{
+    serve::tally(Tally::Transferred, state, page, legends, tables)
+}
+
+// A page passed the fuser.
+#[no_mangle]
+pub extern "C" fn trestlepip_fused(
+    state: &mut [u8],
+    page: &[u8],
+    legends: &[u8],
+    tables: &[u8],
+) -> u64
+    ensures { λ r. ⌜ (let m = storesOf (now (page .entry)) (now (legends .entry)) (now (tables .entry)) in
+        called r [] (now (state .exit)) m ≡ callBytes (now (state .entry)) m (tally Fused)) ⌝ }
+{
+    serve::tally(Tally::Fused, state, page, legends, tables)
+}
+
+// A page came to the stacker.
+#[no_mangle]
+pub extern "C" fn trestlepip_stacked(
+    state: &mut [u8],
+    page: &[u8],
+    legends: &[u8],
+    tables: &[u8],
+) -> u64
+    ensures { λ r. ⌜ (let m = storesOf (now (page .entry)) (now (legends .entry)) (now (tables .entry)) in
+        called r [] (now (state .exit)) m ≡ callBytes (now (state .entry)) m (tally Stacked)) ⌝ }
+{
+    serve::tally(Tally::Stacked, state, page, legends, tables)
+}
+
+// Pages that have not passed transfer are given up.
+#[no_mangle]
+pub extern "C" fn trestlepip_cancel(
+    state: &mut [u8],
+    page: &[u8],
+    legends: &[u8],
+    tables: &[u8],
+) -> u64
+    ensures { λ r. ⌜ (let m = storesOf (now (page .entry)) (now (legends .entry)) (now (tables .entry)) in
+        called r [] (now (state .exit)) m ≡ callBytes (now (state .entry)) m (tally Cancel)) ⌝ }
+{
+    serve::tally(Tally::Cancel, state, page, legends, tables)
+}
+
+// Pages that are not stacked are given up.
+#[no_mangle]
+pub extern "C" fn trestlepip_restart(
+    state: &mut [u8],
+    page: &[u8],
+    legends: &[u8],
+    tables: &[u8],
+) -> u64
+    ensures { λ r. ⌜ (let m = storesOf (now (page .entry)) (now (legends .entry)) (now (tables .entry)) in
+        called r [] (now (state .exit)) m ≡ callBytes (now (state .entry)) m (tally Restart)) ⌝ }
+{
+    serve::tally(Tally::Restart, state, page, legends, tables)
 }
