@@ -7,7 +7,7 @@ use mathlib.Core.Logic.{_⊎_, inl, inr}
 use lib.Dec.{eqb, lit≤}
 use borrow.Author.Tests.{le-ltb, not-true}
 use Rattle.seq.specs.Words.{firstOr, when, every, from}
-use Rattle.seq.proofs.Laws.{First, first-is, first-only, cond-has, every-at}
+use Rattle.seq.proofs.Laws.{First, first-is, first-only, cond-has, every-at, every-of, finally, also}
 use Rattle.numbers.specs.declared.Refusal.{Refusal}
 use Rattle.numbers.specs.declared.Refusal.the-variants.{Accepted, NotListed, BadRecord, PageWaiting, PageStarted, NoPage, BadIndex, TooShort, BadStore, TwoPages, NoneBetween, MostBetween}
 use Rattle.numbers.specs.Numbers.{senseAfter, rowOf, numberOf, isAccepted, only}
@@ -58,44 +58,59 @@ one-page-only k (Controls c) =
 one-page-only k (Loads l) = lit≤ tt
 one-page-only k Unlisted = lit≤ tt
 
--- A number other than 0 to 8, 12 and 13 is not given, unless it is 9 and the contents are bad. So contents that a printer can have get no 9, number 10 is
--- Start's alone, and 11 is never given.
-pub not-given : (n : ℕ) (k : Core) (c : Call) → (not (coreOk k) ≡ false) ⊎ (eqb 9 n ≡ false)
-    → every (map (λ m. not (eqb m n)) (from 0 9 ++ (12 ∷ 13 ∷ []))) ≡ true → eqb (numberOf (refusalOf k c)) n ≡ false
+-- The numbers that a call's order names, besides 9 and 11, with 0 for none of them. No other is given, except 9 where the contents are bad; 11 never is.
+abbrev pub numbersOf : Call → List ℕ
+numbersOf (command i) = 0 ∷ 1 ∷ 4 ∷ 2 ∷ 5 ∷ 3 ∷ 8 ∷ []
+numbersOf (compose n out) = 0 ∷ 6 ∷ 7 ∷ 8 ∷ []
+numbersOf release = 0 ∷ 6 ∷ 13 ∷ []
+numbersOf (tally t) = 0 ∷ 12 ∷ []
+
+abbrev noneOf : List ℕ → ℕ → Bool
+noneOf l n = every (map (λ m. not (eqb m n)) l)
+
+pub not-given : (n : ℕ) (k : Core) (c : Call) → (not (coreOk k) ≡ false) ⊎ (eqb 9 n ≡ false) → noneOf (numbersOf c) n ≡ true
+    → eqb (numberOf (refusalOf k c)) n ≡ false
 unfolding refusalOf rowOf
 not-given n k (command i) nine other =
     number-not n _ BadStore _ nine
     (number-not n _ NotListed _ (inr (not-true _ (every-at 1 _ other)))
-    (number-not n _ PageWaiting _ (inr (not-true _ (every-at 4 _ other)))
-    (number-not n _ BadRecord _ (inr (not-true _ (every-at 2 _ other)))
-    (number-not n _ PageStarted _ (inr (not-true _ (every-at 5 _ other)))
-    (number-check n _ _ (not-true _ (every-at 3 _ other))
-    (number-not n _ TooShort _ (inr (not-true _ (every-at 8 _ other)))
+    (number-not n _ PageWaiting _ (inr (not-true _ (every-at 2 _ other)))
+    (number-not n _ BadRecord _ (inr (not-true _ (every-at 3 _ other)))
+    (number-not n _ PageStarted _ (inr (not-true _ (every-at 4 _ other)))
+    (number-check n _ _ (not-true _ (every-at 5 _ other))
+    (number-not n _ TooShort _ (inr (not-true _ (every-at 6 _ other)))
     (number-not n _ TwoPages [] (inl (le-ltb 1 _ (one-page-only k (decode (i .byte))))) (number-none n (not-true _ (every-at 0 _ other))))))))))
 not-given n k (compose m out) nine other =
     number-not n _ BadStore _ nine
-    (number-not n _ NoPage _ (inr (not-true _ (every-at 6 _ other)))
-    (number-not n _ BadIndex _ (inr (not-true _ (every-at 7 _ other)))
-    (number-not n _ TooShort [] (inr (not-true _ (every-at 8 _ other))) (number-none n (not-true _ (every-at 0 _ other))))))
+    (number-not n _ NoPage _ (inr (not-true _ (every-at 1 _ other)))
+    (number-not n _ BadIndex _ (inr (not-true _ (every-at 2 _ other)))
+    (number-not n _ TooShort [] (inr (not-true _ (every-at 3 _ other))) (number-none n (not-true _ (every-at 0 _ other))))))
 not-given n k release nine other =
     number-not n _ BadStore _ nine
-    (number-not n _ NoPage _ (inr (not-true _ (every-at 6 _ other)))
-    (number-not n _ MostBetween [] (inr (not-true _ (every-at 10 _ other))) (number-none n (not-true _ (every-at 0 _ other)))))
+    (number-not n _ NoPage _ (inr (not-true _ (every-at 1 _ other)))
+    (number-not n _ MostBetween [] (inr (not-true _ (every-at 2 _ other))) (number-none n (not-true _ (every-at 0 _ other)))))
 not-given n k (tally t) nine other =
     number-not n _ BadStore _ nine
-    (number-not n _ NoneBetween [] (inr (not-true _ (every-at 9 _ other))) (number-none n (not-true _ (every-at 0 _ other))))
+    (number-not n _ NoneBetween [] (inr (not-true _ (every-at 1 _ other))) (number-none n (not-true _ (every-at 0 _ other))))
+
+-- So contents that a printer can have get no 9, number 10 is Start's alone, and 11 is never given.
+unnamed : (n : ℕ) → noneOf (from 0 9 ++ (12 ∷ 13 ∷ [])) n ≡ true → (c : Call) → noneOf (numbersOf c) n ≡ true
+unnamed n e (command i) = every-of (also (every-at 0 _ e) (also (every-at 1 _ e) (also (every-at 4 _ e) (also (every-at 2 _ e) (also (every-at 5 _ e) (also (every-at 3 _ e) (also (every-at 8 _ e) finally)))))))
+unnamed n e (compose m out) = every-of (also (every-at 0 _ e) (also (every-at 6 _ e) (also (every-at 7 _ e) (also (every-at 8 _ e) finally))))
+unnamed n e release = every-of (also (every-at 0 _ e) (also (every-at 6 _ e) (also (every-at 10 _ e) finally)))
+unnamed n e (tally t) = every-of (also (every-at 0 _ e) (also (every-at 9 _ e) finally))
 
 pub no-9 : (k : Core) (c : Call) → coreOk k ≡ true → eqb (numberOf (refusalOf k c)) 9 ≡ false
 unfolding every
-no-9 k c e = not-given 9 k c (inl (ap not e)) refl
+no-9 k c e = not-given 9 k c (inl (ap not e)) (unnamed 9 refl c)
 
 never-10 : (k : Core) (c : Call) → eqb (numberOf (refusalOf k c)) 10 ≡ false
 unfolding every
-never-10 k c = not-given 10 k c (inr refl) refl
+never-10 k c = not-given 10 k c (inr refl) (unnamed 10 refl c)
 
 pub never-11 : (k : Core) (c : Call) → eqb (numberOf (refusalOf k c)) 11 ≡ false
 unfolding every
-never-11 k c = not-given 11 k c (inr refl) refl
+never-11 k c = not-given 11 k c (inr refl) (unnamed 11 refl c)
 
 -- Refusals other than 1, 3 and 5 leave the sense too.
 pub refused-keeps : (w : World) (c : Call) → isAccepted (refusalOf (w .core) c) ≡ false → tells (refusalOf (w .core) c) ≡ false → step w c .world ≡ w

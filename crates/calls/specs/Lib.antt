@@ -7,3 +7,4 @@ pub mod Calls
 pub mod Start
 pub mod Premises
 pub mod Lists
+pub mod Pages

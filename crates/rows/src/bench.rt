@@ -70,6 +70,11 @@ fn make(
             tables,
         ),
         b'R' => trestlepip::trestlepip_release(state, page, legends, tables),
+        b'T' => trestlepip::trestlepip_transferred(state, page, legends, tables),
+        b'U' => trestlepip::trestlepip_fused(state, page, legends, tables),
+        b'K' => trestlepip::trestlepip_stacked(state, page, legends, tables),
+        b'X' => trestlepip::trestlepip_cancel(state, page, legends, tables),
+        b'N' => trestlepip::trestlepip_restart(state, page, legends, tables),
         _ => trestlepip::trestlepip_command(
             given[0],
             record_of(given, n),

@@ -57,20 +57,51 @@ pub fn answer(a: u64) {
     figure(b" count", a / 0x2_0000_0000_0000);
 }
 
-// Sense bytes 0, 1, 2, 22 and 23, the current line, and that line's first cell.
+// A page counter's two bytes.
+fn counter(name: &[u8], high: u8, low: u8) {
+    byte(name, high);
+    byte(b"", low);
+}
+
+// The page counters, which are left out where all are 0.
+fn pages(s: &State) {
+    let channel = s[Printer::CHANNEL_AT] | s[Printer::CHANNEL_AT + 1];
+    let transfer = s[Printer::TRANSFER_AT] | s[Printer::TRANSFER_AT + 1];
+    let fuser = s[Printer::FUSER_AT] | s[Printer::FUSER_AT + 1];
+    let stacker = s[Printer::STACKER_AT] | s[Printer::STACKER_AT + 1];
+    if channel | transfer | fuser | stacker == 0 {
+        return;
+    }
+    counter(
+        b" pages",
+        s[Printer::CHANNEL_AT],
+        s[Printer::CHANNEL_AT + 1],
+    );
+    counter(b"", s[Printer::TRANSFER_AT], s[Printer::TRANSFER_AT + 1]);
+    counter(b"", s[Printer::FUSER_AT], s[Printer::FUSER_AT + 1]);
+    counter(b"", s[Printer::STACKER_AT], s[Printer::STACKER_AT + 1]);
+}
+
+// The current line's first cell; a state may have a line that no page has.
+fn cell(line: u8, page: &Page) {
+    if line == 0 {
+        return;
+    }
+    let at = (seq::wide(line) - 1) * Stores::LINE_BYTES;
+    if at < Stores::PAGE_BYTES {
+        byte(b" cell", page[at]);
+    }
+}
+
+// Sense bytes 0, 1, 2, 22 and 23, the current line, that line's first cell, and the page counters.
 pub fn state(s: &State, page: &Page) {
     byte(b" | sense", s[Printer::SENSE0_AT]);
     byte(b"", s[Printer::SENSE0_AT + 1]);
     byte(b"", s[Printer::SENSE0_AT + 2]);
     byte(b" ..", s[Printer::SENSE0_AT + 3]);
     byte(b"", s[Printer::SENSE0_AT + 4]);
-    let line = seq::wide(s[Printer::SHEET_AT]);
-    count(b" line", line as u64);
-    if line == 0 {
-        return;
-    }
-    let at = (line - 1) * Stores::LINE_BYTES;
-    if at < Stores::PAGE_BYTES {
-        byte(b" cell", page[at]);
-    }
+    let line = s[Printer::SHEET_AT];
+    count(b" line", seq::wide(line) as u64);
+    cell(line, page);
+    pages(s);
 }

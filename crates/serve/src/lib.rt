@@ -279,13 +279,7 @@ fn keep_count(which: Tally, state: &mut [u8]) -> Answer
     refuse(refusal, 0, state)
 }
 
-pub fn tally(
-    which: Tally,
-    state: &mut [u8],
-    page: &[u8],
-    legends: &[u8],
-    tables: &[u8],
-) -> u64
+pub fn tally(which: Tally, state: &mut [u8], page: &[u8], legends: &[u8], tables: &[u8]) -> u64
     ensures { λ r. ⌜ (let m = storesOf (now (page .entry)) (now (legends .entry)) (now (tables .entry)) in
         called r [] (now (state .exit)) m ≡ callBytes (now (state .entry)) m (tally which)) ⌝ }
 {

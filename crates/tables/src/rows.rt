@@ -55,7 +55,9 @@ fn after(refusal: Refusal) -> Refusal {
         Refusal::TooShort => plain(b"TOO_SHORT", Refusal::BadStore),
         Refusal::BadStore => plain(b"BAD_STORE", Refusal::BadForm),
         Refusal::BadForm => plain(b"BAD_FORM", Refusal::TwoPages),
-        Refusal::TwoPages => plain(b"TWO_PAGES", Refusal::Accepted),
+        Refusal::TwoPages => plain(b"TWO_PAGES", Refusal::NoneBetween),
+        Refusal::NoneBetween => plain(b"NONE_BETWEEN", Refusal::MostBetween),
+        Refusal::MostBetween => plain(b"MOST_BETWEEN", Refusal::Accepted),
     }
 }
 

@@ -1,4 +1,5 @@
 // The sizes and the state's fields, by their names in include/trestlepip.h.
+use counters::Counters;
 use numbers::Stores;
 use printer::Printer;
 use script::show;
@@ -20,6 +21,7 @@ pub fn sizes() {
     size(b"size ", b"TABLE_BYTES", Printer::TABLE_BYTES);
     size(b"size ", b"LINE_CELLS", Stores::LINE_CELLS);
     size(b"size ", b"SENSE_BYTES", Printer::SENSE_BYTES);
+    size(b"size ", b"MOST_PAGES", Counters::MOST_PAGES as usize);
     size(b"part ", b"LINE_BYTES", Stores::LINE_BYTES);
     size(b"part ", b"SLOT_BYTES", Stores::SLOT_BYTES);
 }
@@ -58,5 +60,9 @@ pub fn places() {
     place(b"SENSE_22", Printer::SENSE0_AT + 3, Printer::SENSE0_AT + 4);
     place(b"SENSE_23", Printer::SENSE0_AT + 4, Printer::PAIRS_AT);
     place(b"SEQUENCE", Printer::PAIRS_AT, Printer::FCB_AT);
-    place(b"FCB", Printer::FCB_AT, Printer::STATE_BYTES);
+    place(b"FCB", Printer::FCB_AT, Printer::CHANNEL_AT);
+    place(b"CHANNEL_PAGE", Printer::CHANNEL_AT, Printer::TRANSFER_AT);
+    place(b"TRANSFER_PAGE", Printer::TRANSFER_AT, Printer::FUSER_AT);
+    place(b"FUSER_PAGE", Printer::FUSER_AT, Printer::STACKER_AT);
+    place(b"STACKER_PAGE", Printer::STACKER_AT, Printer::STATE_BYTES);
 }
