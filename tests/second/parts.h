@@ -18,13 +18,19 @@ enum {
     REPLY_BYTES = 24,
     LOAD_MOST = 8192,
     HALF_INCH = 12,
-    SEGMENT_HEAD = 6
+    SEGMENT_HEAD = 6,
+    PAGES_OUT_MOST = 32767
 };
 
 /* Causes in sense byte 1 of a data check. */
 enum { UNPRINTABLE = 0x80, NO_TABLE = 0x20, NO_MATCH = 0x10, MULTIPLE = 0x08 };
 
-/* The state, a member for each row of STATE.md; sense holds bytes 0, 1, 2, 22 and 23. */
+/* T-02: the page counters, which go on from FFFF to 0000. */
+struct counters {
+    uint16_t channel, transfer, fuser, stacker;
+};
+
+/* The state, a member for each row of STATE.md, the four counters in one; sense holds bytes 0, 1, 2, 22 and 23. */
 struct printer {
     unsigned form;
     uint32_t pitch[TRESTLEPIP_MODULES];
@@ -41,6 +47,7 @@ struct printer {
     uint8_t sense[TRESTLEPIP_SENSE_KEPT];
     uint8_t sequence[TRESTLEPIP_SEQUENCE_MOST];
     uint8_t fcb[TRESTLEPIP_FCB_MOST];
+    struct counters pages;
 };
 
 /* What a write or a legend load finds on its way; positions count from 1, and the first is 0 if there is none. */
@@ -65,6 +72,9 @@ struct movement {
 void decode(const uint8_t *bytes, struct printer *p);
 void encode(const struct printer *p, uint8_t *bytes);
 bool contents_of_a_printer(const struct printer *p, const uint8_t *legends);
+bool stores_sized(size_t state_len, size_t page_len, size_t legends_len, size_t tables_len);
+bool read_printer(const uint8_t *state, size_t state_len, size_t page_len, const uint8_t *legends, size_t legends_len, size_t tables_len,
+        struct printer *p);
 bool all_zero(const uint8_t *bytes, size_t count);
 
 /* form.c */
@@ -81,6 +91,10 @@ bool page_started(const struct printer *p);
 void starting_tables(uint8_t *tables);
 struct findings translate(const struct printer *p, const uint8_t *tables, const uint8_t *bytes, size_t count, uint8_t *cells);
 struct findings write_line(const struct printer *p, const uint8_t *tables, const uint8_t *record, size_t count, uint8_t *page);
+
+/* stations.c */
+bool counters_reachable(const struct counters *n);
+bool most_pages_out(const struct counters *n);
 
 /* copies.c */
 unsigned sequence_cause(const uint8_t *pairs, size_t count);

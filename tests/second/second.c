@@ -1,4 +1,4 @@
-/* Calls; Numbers; Commands; Reset and sense; T-01. */
+/* Calls; Numbers; Commands; Reset and sense; T-01; of T-02, what a Release counts. */
 #include "second.h"
 
 #include "parts.h"
@@ -53,12 +53,6 @@ static uint64_t pack(struct answer a)
 static struct answer refused(unsigned number, unsigned status)
 {
     return (struct answer){ .number = number, .status = status };
-}
-
-/* Numbers, 9: the sizes of the stores but the state. */
-static bool stores_sized(size_t page_len, size_t legends_len, size_t tables_len)
-{
-    return page_len == PAGE_BYTES && legends_len == LEGEND_BYTES && tables_len == TABLE_BYTES;
 }
 
 /* Commands: the codes of the paper and of the command set table, but for the skips. */
@@ -124,7 +118,7 @@ static void set_sense(struct printer *p, unsigned byte_0, unsigned byte_1, unsig
     p->sense[2] = (uint8_t)byte_2;
 }
 
-/* Reset and sense: all that Initialize resets; the check switch and the sense are left. */
+/* Reset and sense: all that Initialize resets; the check switch, the sense and the counters are left. */
 static void reset(struct printer *p, uint8_t *legends, uint8_t *tables)
 {
     starting_fcb(p);
@@ -366,10 +360,7 @@ uint64_t second_command(uint8_t command,
 {
     struct printer p;
     struct lent l = { record, record_len, reply, reply_len, page, legends, tables };
-    if (state_len != STATE_BYTES || !stores_sized(page_len, legends_len, tables_len))
-        return pack(refused(9, 0x00));
-    decode(state, &p);
-    if (!contents_of_a_printer(&p, legends))
+    if (!read_printer(state, state_len, page_len, legends, legends_len, tables_len, &p))
         return pack(refused(9, 0x00));
     struct answer a = judge_and_perform(&p, command_of(command), &l);
     encode(&p, state);
@@ -404,7 +395,7 @@ uint64_t second_start(uint32_t form,
 {
     struct printer p;
     const uint32_t pitch[TRESTLEPIP_MODULES] = { pitch0, pitch1, pitch2, pitch3 };
-    bool sized = state_len == STATE_BYTES && stores_sized(page_len, legends_len, tables_len);
+    bool sized = stores_sized(state_len, page_len, legends_len, tables_len);
     struct answer a = judge_start(form, pitch, sized);
     if (a.number == 0) {
         new_printer(form, pitch, &p, page, legends, tables);
@@ -435,10 +426,7 @@ uint64_t second_compose(uint32_t copy,
 {
     struct printer p;
     (void)tables;
-    if (state_len != STATE_BYTES || !stores_sized(page_len, legends_len, tables_len))
-        return pack(refused(9, 0x00));
-    decode(state, &p);
-    if (!contents_of_a_printer(&p, legends))
+    if (!read_printer(state, state_len, page_len, legends, legends_len, tables_len, &p))
         return pack(refused(9, 0x00));
     struct answer a = judge_compose(&p, copy, out_len);
     if (a.number == 0)
@@ -446,11 +434,14 @@ uint64_t second_compose(uint32_t copy,
     return pack(a);
 }
 
-/* Movement, Reset and sense: the page's bytes are set to 00, and a reset that is due is done; the sense is left. */
+/* Movement, Reset and sense, T-02: the page is counted, its bytes are set to 00, and a reset that is due is done; the sense is left. */
 static struct answer release(struct printer *p, uint8_t *page, uint8_t *legends, uint8_t *tables)
 {
     if (!p->waiting)
         return refused(6, 0x00);
+    if (most_pages_out(&p->pages))
+        return refused(13, 0x00);
+    p->pages.channel++;
     p->waiting = 0;
     memset(page, 0, PAGE_BYTES);
     if (p->reset_due)
@@ -464,10 +455,7 @@ uint64_t second_release(
         uint8_t *legends, size_t legends_len, uint8_t *tables, size_t tables_len)
 {
     struct printer p;
-    if (state_len != STATE_BYTES || !stores_sized(page_len, legends_len, tables_len))
-        return pack(refused(9, 0x00));
-    decode(state, &p);
-    if (!contents_of_a_printer(&p, legends))
+    if (!read_printer(state, state_len, page_len, legends, legends_len, tables_len, &p))
         return pack(refused(9, 0x00));
     struct answer a = release(&p, page, legends, tables);
     encode(&p, state);

@@ -8,5 +8,6 @@ start_call second_start;
 command_call second_command;
 compose_call second_compose;
 release_call second_release;
+tally_call second_transferred, second_fused, second_stacked, second_cancel, second_restart;
 
 #endif

@@ -33,3 +33,18 @@ uint64_t trestlepip_release(
 {
     return second_release(state, state_len, page, page_len, legends, legends_len, tables, tables_len);
 }
+
+/* The five calls that change the page counters have one signature. */
+#define TALLY_CALL(name) \
+    uint64_t trestlepip_##name( \
+            uint8_t *state, size_t state_len, const uint8_t *page, size_t page_len, \
+            const uint8_t *legends, size_t legends_len, const uint8_t *tables, size_t tables_len) \
+    { \
+        return second_##name(state, state_len, page, page_len, legends, legends_len, tables, tables_len); \
+    }
+
+TALLY_CALL(transferred)
+TALLY_CALL(fused)
+TALLY_CALL(stacked)
+TALLY_CALL(cancel)
+TALLY_CALL(restart)

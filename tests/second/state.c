@@ -17,10 +17,39 @@ static void decode_singles(const uint8_t *bytes, struct printer *p)
     p->reset_due = bytes[TRESTLEPIP_AT_RESET_DUE];
 }
 
+/* STATE.md: a number of two bytes, high byte first. */
+static uint16_t decode_double(const uint8_t *bytes)
+{
+    return (uint16_t)(bytes[0] * 256u + bytes[1]);
+}
+
+static void encode_double(unsigned number, uint8_t *bytes)
+{
+    bytes[0] = (uint8_t)(number / 256u);
+    bytes[1] = (uint8_t)(number % 256u);
+}
+
+/* STATE.md: the counters, read and written. */
+static void decode_counters(const uint8_t *bytes, struct counters *n)
+{
+    n->channel = decode_double(bytes + TRESTLEPIP_AT_CHANNEL_PAGE);
+    n->transfer = decode_double(bytes + TRESTLEPIP_AT_TRANSFER_PAGE);
+    n->fuser = decode_double(bytes + TRESTLEPIP_AT_FUSER_PAGE);
+    n->stacker = decode_double(bytes + TRESTLEPIP_AT_STACKER_PAGE);
+}
+
+static void encode_counters(const struct counters *n, uint8_t *bytes)
+{
+    encode_double(n->channel, bytes + TRESTLEPIP_AT_CHANNEL_PAGE);
+    encode_double(n->transfer, bytes + TRESTLEPIP_AT_TRANSFER_PAGE);
+    encode_double(n->fuser, bytes + TRESTLEPIP_AT_FUSER_PAGE);
+    encode_double(n->stacker, bytes + TRESTLEPIP_AT_STACKER_PAGE);
+}
+
 /* STATE.md, read; any bytes are taken here and judged later. */
 void decode(const uint8_t *bytes, struct printer *p)
 {
-    p->form = bytes[TRESTLEPIP_AT_FORM] * 256u + bytes[TRESTLEPIP_AT_FORM + 1];
+    p->form = decode_double(bytes + TRESTLEPIP_AT_FORM);
     decode_singles(bytes, p);
     for (unsigned i = 0; i < TRESTLEPIP_MODULES; i++)
         p->pitch[i] = bytes[TRESTLEPIP_AT_PITCH + i];
@@ -29,6 +58,7 @@ void decode(const uint8_t *bytes, struct printer *p)
     memcpy(p->sense, bytes + TRESTLEPIP_AT_SENSE_0, TRESTLEPIP_SENSE_KEPT);
     memcpy(p->sequence, bytes + TRESTLEPIP_AT_SEQUENCE, TRESTLEPIP_SEQUENCE_MOST);
     memcpy(p->fcb, bytes + TRESTLEPIP_AT_FCB, TRESTLEPIP_FCB_MOST);
+    decode_counters(bytes, &p->pages);
 }
 
 /* STATE.md: the fields of one byte again, written. */
@@ -48,8 +78,7 @@ static void encode_singles(const struct printer *p, uint8_t *bytes)
 /* STATE.md, written. */
 void encode(const struct printer *p, uint8_t *bytes)
 {
-    bytes[TRESTLEPIP_AT_FORM] = (uint8_t)(p->form / 256u);
-    bytes[TRESTLEPIP_AT_FORM + 1] = (uint8_t)(p->form % 256u);
+    encode_double(p->form, bytes + TRESTLEPIP_AT_FORM);
     encode_singles(p, bytes);
     for (unsigned i = 0; i < TRESTLEPIP_MODULES; i++)
         bytes[TRESTLEPIP_AT_PITCH + i] = (uint8_t)p->pitch[i];
@@ -58,6 +87,7 @@ void encode(const struct printer *p, uint8_t *bytes)
     memcpy(bytes + TRESTLEPIP_AT_SENSE_0, p->sense, TRESTLEPIP_SENSE_KEPT);
     memcpy(bytes + TRESTLEPIP_AT_SEQUENCE, p->sequence, TRESTLEPIP_SEQUENCE_MOST);
     memcpy(bytes + TRESTLEPIP_AT_FCB, p->fcb, TRESTLEPIP_FCB_MOST);
+    encode_counters(&p->pages, bytes);
 }
 
 /* Bytes not in use are 00, so that one printer has one state; a store is never longer than the legends here. */
@@ -103,5 +133,22 @@ static bool page_in_range(const struct printer *p)
 bool contents_of_a_printer(const struct printer *p, const uint8_t *legends)
 {
     return form_listed(p->form) && pitches_listed(p->pitch) && p->block <= 1 && slots_in_range(p) && p->selected < TRESTLEPIP_SLOTS
-        && p->copy_number >= 1 && fcb_in_range(p) && sequence_in_range(p) && page_in_range(p) && legends_as_stored(legends);
+        && p->copy_number >= 1 && fcb_in_range(p) && sequence_in_range(p) && page_in_range(p) && counters_reachable(&p->pages)
+        && legends_as_stored(legends);
+}
+
+/* Numbers, 9: the sizes of the stores. */
+bool stores_sized(size_t state_len, size_t page_len, size_t legends_len, size_t tables_len)
+{
+    return state_len == STATE_BYTES && page_len == PAGE_BYTES && legends_len == LEGEND_BYTES && tables_len == TABLE_BYTES;
+}
+
+/* Numbers, 9: the printer that the stores hold; false if a size is wrong or no printer has these contents. */
+bool read_printer(const uint8_t *state, size_t state_len, size_t page_len, const uint8_t *legends, size_t legends_len, size_t tables_len,
+        struct printer *p)
+{
+    if (!stores_sized(state_len, page_len, legends_len, tables_len))
+        return false;
+    decode(state, p);
+    return contents_of_a_printer(p, legends);
 }
