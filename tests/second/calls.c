@@ -257,6 +257,7 @@ static void while_printing(struct generator *g, struct call *c)
 static void clean(struct generator *g, struct call *c)
 {
     c->record_len = c->buffer_len = c->change_count = 0;
+    c->sets_counters = false;
     c->at_begin = percent(g, 60);
     c->null_if_empty = percent(g, 50);
     memcpy(c->store_len, store_size, sizeof store_size);
@@ -284,6 +285,14 @@ void generator_begin(struct generator *g, uint64_t seed, uint64_t list, bool cal
     memcpy(g->stores, stores, sizeof g->stores);
 }
 
+/* Now and then counters are set that calls would lead to after very many pages; not amid damage, which is put back. */
+static void tend_counters(struct generator *g, struct call *c)
+{
+    c->sets_counters = g->made > 1 && g->undo_count == 0 && permille(g, g->permille_counters);
+    if (c->sets_counters)
+        reachable_counters(g, TRESTLEPIP_MOST_PAGES, c->counters);
+}
+
 void generator_next(struct generator *g, unsigned answered, struct call *c)
 {
     bool new_printer = c->kind == CALL_START && answered == 0;
@@ -292,8 +301,11 @@ void generator_next(struct generator *g, unsigned answered, struct call *c)
     clean(g, c);
     if (!g->calm)
         tend_damage(g, c);
+    tend_counters(g, c);
     if (start_due(g, answered))
         start(g, c);
+    else if (tally_due(g))
+        tally_call(g, c);
     else if (state_of(g)[TRESTLEPIP_AT_WAITING] == 1)
         while_waiting(g, c);
     else

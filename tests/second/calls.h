@@ -10,6 +10,9 @@
 
 enum { STORES = 4, FORMS = 11, RECORD_ROOM = 10240, REPLY_ROOM = 64, OUT_ROOM = TRESTLEPIP_PAGE_BYTES + 64, CHANGES_MOST = 3, CHANGE_MOST = 256 };
 
+/* The page counters, in the order of the state, and their bytes there. */
+enum { CHANNEL, TRANSFER, FUSER, STACKER, COUNTERS, COUNTER_BYTES = 2 * COUNTERS };
+
 /* The most text that a legend load takes: 39 segments of a whole line each. */
 enum { TEXT_MOST = 39 * TRESTLEPIP_LINE_CELLS };
 
@@ -22,7 +25,7 @@ extern const size_t store_size[STORES];
 /* The form lengths that Start takes. */
 extern const unsigned forms[FORMS];
 
-enum call_kind { CALL_START, CALL_COMMAND, CALL_COMPOSE, CALL_RELEASE };
+enum call_kind { CALL_START, CALL_COMMAND, CALL_COMPOSE, CALL_RELEASE, CALL_TRANSFERRED, CALL_FUSED, CALL_STACKED, CALL_CANCEL, CALL_RESTART };
 
 /* Bytes of a store that are to be set before the call. */
 struct change {
@@ -33,7 +36,7 @@ struct change {
 };
 
 /* One call with all its numbers and lengths; `buffer_len` is that of the reply or the output. A store of wrong size begins where the right one
- * does, so that its contents are good, or else ends where it does. */
+ * does, so that its contents are good, or else ends where it does. Counters that are to be set before the call are such as calls lead to. */
 struct call {
     enum call_kind kind;
     uint32_t form;
@@ -49,12 +52,18 @@ struct call {
     struct change changes[CHANGES_MOST];
     size_t change_count;
     bool damaged[STORES];
+    bool sets_counters;
+    uint8_t counters[COUNTER_BYTES];
 };
 
 /* Whether the call is a write or a legend load, if its byte is listed: only these translate. */
 bool translates(const struct call *c);
 
-/* What the generator keeps from call to call. A calm one makes no Start except the first, and damages nothing. */
+/* Whether the call is one of the five that change the page counters alone. */
+bool is_tally(const struct call *c);
+
+/* What the generator keeps from call to call. A calm one makes no Start except the first, and damages nothing. Any sets counters only if it is told
+ * how often. */
 struct generator {
     uint64_t word[4];
     bool calm;
@@ -65,6 +74,7 @@ struct generator {
     unsigned percent_overprint;
     unsigned percent_skip;
     unsigned permille_wrong_size;
+    unsigned permille_counters;
     unsigned loads_left;
     uint32_t copy_run;
     const uint8_t *stores[STORES];
@@ -78,5 +88,11 @@ void generator_fill(struct generator *g, uint8_t *bytes, size_t count);
 
 /* Makes the next call over the one before it; `answered` is the number that that one got. */
 void generator_next(struct generator *g, unsigned answered, struct call *c);
+
+/* A page counter of a state. */
+unsigned counter_of(const uint8_t *state, unsigned counter);
+
+/* Makes counters that calls can lead to, with at most so many pages between channel and stacker. */
+void reachable_counters(struct generator *g, unsigned most_out, uint8_t bytes[COUNTER_BYTES]);
 
 #endif

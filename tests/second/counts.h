@@ -5,7 +5,7 @@
 #include "calls.h"
 #include "table.h"
 
-enum { NUMBERS = 12, CAUSES = 11 };
+enum { NUMBERS = 14, CAUSES = 11 };
 
 /* What a list has met; it is disturbed by a Start after its first call, by a byte that the driver sets, and by a store of wrong size. */
 struct list_counts {

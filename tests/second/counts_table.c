@@ -5,14 +5,14 @@
 
 #include <stdio.h>
 
-/* Numbers 0 to 10 have to be met; number 11 cannot occur. */
+/* Every number has to be met, except 11, which cannot occur. */
 static void number_rows(struct table *t, const struct counts *n)
 {
     static const char *const names[NUMBERS] = {
         "number 0: accepted", "number 1: byte not listed", "number 2: write or load record", "number 3: load check",
         "number 4: page waiting", "number 5: load on a started page", "number 6: no page waiting", "number 7: copy index",
         "number 8: output or reply too short", "number 9: store of wrong size or contents", "number 10: form or pitch not listed",
-        "number 11: two pages completed"
+        "number 11: two pages completed", "number 12: no page between a station and the one before it", "number 13: 32,767 pages released and not stacked"
     };
     for (unsigned i = 0; i < NUMBERS; i++)
         table_add(t, names[i], n->number[i], i == TRESTLEPIP_TWO_PAGES ? NEVER : 1);

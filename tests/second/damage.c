@@ -122,11 +122,19 @@ static void damage_page(struct generator *g, struct call *c)
     set_bytes(g, c, PAGE, below(g, store_size[PAGE] - sizeof cells), cells, sizeof cells);
 }
 
+/* Counters that no calls can lead to. */
+static void damage_counters(struct generator *g, struct call *c)
+{
+    uint8_t bytes[COUNTER_BYTES];
+    unreachable_counters(g, bytes);
+    set_bytes(g, c, STATE, TRESTLEPIP_AT_CHANNEL_PAGE, bytes, sizeof bytes);
+}
+
 /* The stores are damaged for this call and some after it. */
 static void damage(struct generator *g, struct call *c)
 {
     g->damage_left = between(g, 2, 6);
-    switch (started_now(g) ? WEIGHTED(g, 50, 12, 12, 8, 5, 8, 10, 4) : WEIGHTED(g, 40, 7, 7, 8, 5, 8, 8, 45)) {
+    switch (started_now(g) ? WEIGHTED(g, 50, 12, 12, 8, 5, 8, 10, 12, 4) : WEIGHTED(g, 40, 7, 7, 8, 5, 8, 8, 12, 45)) {
     case 0: damage_byte(g, c); break;
     case 1: damage_to_waiting(g, c); break;
     case 2: damage_line(g, c); break;
@@ -134,6 +142,7 @@ static void damage(struct generator *g, struct call *c)
     case 4: damage_sequence(g, c); break;
     case 5: damage_legends(g, c); break;
     case 6: damage_field(g, c); break;
+    case 7: damage_counters(g, c); break;
     default: damage_page(g, c); break;
     }
     if (g->undo_count < CHANGES_MOST && percent(g, 12))

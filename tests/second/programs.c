@@ -38,7 +38,12 @@ static uint64_t make_call(const struct exports *p, const struct set *s, const st
     case CALL_START: return p->start(c->form, c->pitch[0], c->pitch[1], c->pitch[2], c->pitch[3], HANDED_STORES);
     case CALL_COMMAND: return p->command(c->command, HANDED(RECORD, c->record_len), HANDED(REPLY, c->buffer_len), HANDED_STORES);
     case CALL_COMPOSE: return p->compose(c->copy, HANDED(OUT, c->buffer_len), HANDED_STORES);
-    default: return p->release(HANDED_STORES);
+    case CALL_RELEASE: return p->release(HANDED_STORES);
+    case CALL_TRANSFERRED: return p->transferred(HANDED_STORES);
+    case CALL_FUSED: return p->fused(HANDED_STORES);
+    case CALL_STACKED: return p->stacked(HANDED_STORES);
+    case CALL_CANCEL: return p->cancel(HANDED_STORES);
+    default: return p->restart(HANDED_STORES);
     }
 }
 

@@ -20,14 +20,26 @@ static void print_lengths(const struct call *c)
             c->store_len[PAGE], c->store_len[LEGENDS], c->store_len[TABLES], c->buffer_len, c->null_if_empty ? "null" : "not null");
 }
 
-void print_call(const struct call *c, const uint8_t *state)
+/* A call by its name, with its numbers if it has any. */
+static void print_name(const struct call *c)
 {
+    static const char *const names[] = {
+        [CALL_RELEASE] = "Release", [CALL_TRANSFERRED] = "Transferred", [CALL_FUSED] = "Fused", [CALL_STACKED] = "Stacked", [CALL_CANCEL] = "Cancel",
+        [CALL_RESTART] = "Restart"
+    };
     if (c->kind == CALL_START)
         printf("Start: form %u, pitches %u %u %u %u\n", c->form, c->pitch[0], c->pitch[1], c->pitch[2], c->pitch[3]);
+    else if (c->kind == CALL_COMMAND)
+        printf("Command: %02X\n", c->command);
     else if (c->kind == CALL_COMPOSE)
         printf("Compose: copy %u\n", c->copy);
     else
-        printf(c->kind == CALL_RELEASE ? "Release\n" : "Command: %02X\n", c->command);
+        printf("%s\n", names[c->kind]);
+}
+
+void print_call(const struct call *c, const uint8_t *state)
+{
+    print_name(c);
     print_lengths(c);
     if (c->kind == CALL_COMMAND)
         print_bytes("record", c->record, c->record_len);

@@ -17,6 +17,9 @@
 /* The first list of each four is calm, and four times as long as another, so that it comes to a hundred pages and more. */
 enum { LISTS_OF_FOUR = 4, SHARES_CALM = 4, CALLS_ON_AVERAGE = 1750 };
 
+/* In a list whose counters are set now and then, so many times in a thousand calls. */
+enum { PERMILLE_COUNTERS = 8 };
+
 unsigned long long usual_lists(unsigned long long calls)
 {
     return calls < CALLS_ON_AVERAGE ? 1 : calls / CALLS_ON_AVERAGE;
@@ -67,10 +70,20 @@ static void apply_changes(struct run *r)
     }
 }
 
+/* Sets the counters that the generator asks for, alike. */
+static void apply_counters(struct run *r)
+{
+    if (!r->call.sets_counters)
+        return;
+    memcpy(store(r->library, STATE) + TRESTLEPIP_AT_CHANNEL_PAGE, r->call.counters, COUNTER_BYTES);
+    memcpy(store(&r->second, STATE) + TRESTLEPIP_AT_CHANNEL_PAGE, r->call.counters, COUNTER_BYTES);
+    memcpy(r->before[STATE] + TRESTLEPIP_AT_CHANNEL_PAGE, r->call.counters, COUNTER_BYTES);
+}
+
 /* The stores as they are now become those before the next call. */
 static void remember(struct run *r)
 {
-    bool stores_kept = trestlepip_number(r->second_answer) != 0 || r->call.kind == CALL_COMPOSE;
+    bool stores_kept = trestlepip_number(r->second_answer) != 0 || r->call.kind == CALL_COMPOSE || is_tally(&r->call);
     for (enum store i = STATE; i <= (stores_kept ? STATE : TABLES); i++)
         memcpy(r->before[i], store(&r->second, i), store_size[i]);
 }
@@ -100,7 +113,8 @@ static bool agree(const struct run *r)
     bool same_answer = r->library_answer == r->second_answer;
     bool buffers = buffers_differ(r, &d) || refusal_changes(r, &d);
     const char *fault = telling_fault(r);
-    if (same_answer && !buffers && fault == NULL)
+    const char *miscount = counting_fault(&r->law, &r->call, r->library_answer, r->before[STATE], store(r->library, STATE));
+    if (same_answer && !buffers && fault == NULL && miscount == NULL)
         return true;
     print_place(r);
     print_answers("library", r->library_answer, "second", r->second_answer);
@@ -108,6 +122,8 @@ static bool agree(const struct run *r)
         print_difference(&d);
     if (fault != NULL)
         printf("the library's answer by itself: %s\n", fault);
+    if (miscount != NULL)
+        printf("the library's counters by themselves: %s\n", miscount);
     return false;
 }
 
@@ -117,6 +133,7 @@ static bool run_call(struct run *r)
     generator_next(&r->generator, trestlepip_number(r->second_answer), &r->call);
     settle_begin(&r->call, r->library == &r->guarded);
     apply_changes(r);
+    apply_counters(r);
     lay_out(r->library, &r->call, (unsigned)r->calls_made);
     lay_out(&r->second, &r->call, (unsigned)r->calls_made);
     r->second_answer = call_second(&r->second, &r->call);
@@ -125,6 +142,7 @@ static bool run_call(struct run *r)
         printf("the library touched memory that it was not lent\n");
         return false;
     }
+    law_count(&r->law, &r->call, r->library_answer, r->before[STATE]);
     if (!agree(r))
         return false;
     count_call(r);
@@ -159,6 +177,12 @@ static bool is_guarded(const struct run *r)
     return r->options.guard_all || (four_of(r->list) + r->list) % 2 == 0;
 }
 
+/* Whether the driver sets counters in a list: in two lists of each four, and in two calm ones of each four. */
+static bool sets_counters(unsigned long long list)
+{
+    return (four_of(list) / 2 + list / 2) % 2 == 0;
+}
+
 /* One list. */
 static bool run_list(struct run *r, unsigned long long calls)
 {
@@ -166,6 +190,7 @@ static bool run_list(struct run *r, unsigned long long calls)
     const struct set *s = &r->second;
     const uint8_t *const looked_at[STORES] = { store(s, STATE), store(s, PAGE), store(s, LEGENDS), store(s, TABLES) };
     generator_begin(&r->generator, r->options.seed, r->list, is_calm(r->list), looked_at);
+    r->generator.permille_counters = sets_counters(r->list) ? PERMILLE_COUNTERS : 0;
     lay_stores(r);
     lay_buffers(r->library);
     lay_buffers(&r->second);

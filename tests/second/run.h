@@ -5,13 +5,14 @@
 #include "calls.h"
 #include "counts.h"
 #include "lent.h"
+#include "page_law.h"
 
 struct options {
     unsigned long long calls, lists, pairs, seed;
     bool guard_all, meet_all;
 };
 
-/* The sets of both programs, and the stores as they were before the call. */
+/* The sets of both programs, the stores as they were before the call, and the pages that the library's calls counted. */
 struct run {
     struct options options;
     struct set plain, guarded, second;
@@ -21,6 +22,7 @@ struct run {
     struct generator generator;
     struct call call;
     uint64_t library_answer, second_answer;
+    struct page_law law;
     struct counts counts;
 };
 
