@@ -5,6 +5,8 @@
 
 const size_t store_size[STORES] = { TRESTLEPIP_STATE_BYTES, TRESTLEPIP_PAGE_BYTES, TRESTLEPIP_LEGEND_BYTES, TRESTLEPIP_TABLE_BYTES };
 
+const char *const call_name[CALL_KINDS] = { "Start", "Command", "Compose", "Release", "Transferred", "Fused", "Stacked", "Cancel", "Restart" };
+
 const unsigned forms[FORMS] = { 72, 84, 96, 132, 144, 168, 192, 204, 240, 264, 288 };
 
 /* At 12 lines per inch this form has 132 printable lines, and no other has so many. */

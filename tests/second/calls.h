@@ -25,7 +25,12 @@ extern const size_t store_size[STORES];
 /* The form lengths that Start takes. */
 extern const unsigned forms[FORMS];
 
-enum call_kind { CALL_START, CALL_COMMAND, CALL_COMPOSE, CALL_RELEASE, CALL_TRANSFERRED, CALL_FUSED, CALL_STACKED, CALL_CANCEL, CALL_RESTART };
+enum call_kind {
+    CALL_START, CALL_COMMAND, CALL_COMPOSE, CALL_RELEASE, CALL_TRANSFERRED, CALL_FUSED, CALL_STACKED, CALL_CANCEL, CALL_RESTART, CALL_KINDS
+};
+
+/* The calls' names, for print. */
+extern const char *const call_name[CALL_KINDS];
 
 /* Bytes of a store that are to be set before the call. */
 struct change {

@@ -208,8 +208,7 @@ static void add_start(struct counts *n, const struct call *c, uint64_t answer)
     n->start_refused_sized += !taken && c->store_len[STATE] == STATE_BYTES;
 }
 
-/* Whether a call's stores all have their sizes. */
-static bool sized(const struct call *c)
+bool is_sized(const struct call *c)
 {
     return memcmp(c->store_len, store_size, sizeof store_size) == 0;
 }
@@ -229,7 +228,7 @@ static void add_damage(struct counts *n, const struct call *c, uint64_t answer)
 /* Whether the driver had its hand in this call, and not the printer's own calls alone. */
 static bool disturbs(const struct call *c)
 {
-    return c->kind == CALL_START || c->change_count != 0 || !sized(c) || c->damaged[STATE] || c->damaged[PAGE] || c->damaged[LEGENDS]
+    return c->kind == CALL_START || c->change_count != 0 || !is_sized(c) || c->damaged[STATE] || c->damaged[PAGE] || c->damaged[LEGENDS]
         || c->damaged[TABLES];
 }
 
@@ -285,11 +284,10 @@ void counts_add(struct counts *n, const struct call *c, uint64_t answer, uint8_t
         add_command(n, c, answer, before, after[STATE]);
     if (c->kind == CALL_COMPOSE && taken)
         add_copy(n, answer, after);
-    if (c->kind == CALL_RELEASE && taken)
-        n->deferred_reset += before[STATE][TRESTLEPIP_AT_RESET_DUE];
     if (c->kind == CALL_START)
         add_start(n, c, answer);
-    else if (sized(c))
+    else if (is_sized(c))
         add_damage(n, c, answer);
+    page_counts_add(&n->pages, c, trestlepip_number(answer), before, after[STATE]);
     add_to_list(n, c, answer, before[STATE]);
 }

@@ -5,7 +5,7 @@
 #include "calls.h"
 #include "table.h"
 
-enum { NUMBERS = 14, CAUSES = 11 };
+enum { NUMBERS = 14, CAUSES = 11, TALLIES = 5 };
 
 /* What a list has met; it is disturbed by a Start after its first call, by a byte that the driver sets, and by a store of wrong size. */
 struct list_counts {
@@ -22,6 +22,16 @@ struct told_counts {
     unsigned long by_table_0, by_modules;
 };
 
+/* Station, cancel and restart calls: accepted, and refused with 12; counters that went on from FFFF to 0000; what cancels and restarts gave up; Releases
+ * that counted a page with a reset, left the most pages out, or were refused with 13 and a reset due; and calls refused with 9 for their counters. */
+struct page_counts {
+    unsigned long taken[TALLIES], none_between[TALLIES];
+    unsigned long wrap[COUNTERS];
+    unsigned long cancel_of_pages, cancel_of_none, restart_of_pages, restart_of_none, while_waiting, over_wrap;
+    unsigned long reset_counts, most_out, reset_waits;
+    unsigned long unreachable[CALL_KINDS], stacker_ahead, fuser_ahead, transfer_ahead, too_many_out;
+};
+
 struct counts {
     unsigned long number[NUMBERS];
     unsigned long cause[CAUSES];
@@ -33,18 +43,25 @@ struct counts {
     unsigned long unprintable_at_3, unprintable_at_4_or_5;
     unsigned long command[256];
     unsigned long form[FORMS];
-    unsigned long page_ready, deferred_reset;
+    unsigned long page_ready;
     unsigned long write_on_last_line, all_slots_loaded;
     unsigned long copy, copy_covered, copy_overlapped, copy_above_255, copy_of_last_number, copy_of_most_lines;
     unsigned long start_refused_sized;
     unsigned long state_refused, state_taken, legends_refused, legends_taken, cells_taken;
     unsigned long lists_long, lists_of_pages;
     unsigned long run_so_far, runs, runs_short;
+    struct page_counts pages;
     struct list_counts list, undisturbed;
 };
 
 /* Adds one call: its answer, and the stores before and after it. */
 void counts_add(struct counts *n, const struct call *c, uint64_t answer, uint8_t *const before[STORES], const uint8_t *const after[STORES]);
+
+/* Whether a call's stores all have their sizes. */
+bool is_sized(const struct call *c);
+
+/* Adds what one call did with the page counters: its number, the stores before it, and the state after it. */
+void page_counts_add(struct page_counts *n, const struct call *c, unsigned number, uint8_t *const before[STORES], const uint8_t *after);
 
 /* Adds the list whose last call was added: only now is it known whether it was disturbed. */
 void counts_end_list(struct counts *n);

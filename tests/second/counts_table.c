@@ -125,11 +125,48 @@ static void form_rows(struct table *t, const struct counts *n)
 /* Pages and copies, and how far writes and copies went. */
 static void page_rows(struct table *t, const struct counts *n)
 {
-    TABLE_ADD_ROWS(t, { "page ready", n->page_ready, 1 }, { "deferred reset done by Release", n->deferred_reset, 1 },
+    TABLE_ADD_ROWS(t, { "page ready", n->page_ready, 1 },
             { "write on line 132", n->write_on_last_line, 20 }, { "write or legend load while all four slots are loaded", n->all_slots_loaded, 20 },
             { "copy composed", n->copy, 1 }, { "copy where a legend covered something", n->copy_covered, 1 },
             { "copy where segments overlapped", n->copy_overlapped, 1 }, { "copy with a number above 255", n->copy_above_255, 1 },
             { "copy with number 509", n->copy_of_last_number, 5 }, { "copy of 132 lines", n->copy_of_most_lines, 20 });
+}
+
+/* Station, cancel and restart calls. */
+static void tally_rows(struct table *t, const struct page_counts *n)
+{
+    TABLE_ADD_ROWS(t, { "page transferred", n->taken[0], 200 }, { "page fused", n->taken[1], 200 }, { "page stacked", n->taken[2], 200 },
+            { "cancel", n->taken[3], 20 }, { "restart", n->taken[4], 20 },
+            { "page transferred, refused with 12", n->none_between[0], 20 }, { "page fused, refused with 12", n->none_between[1], 20 },
+            { "page stacked, refused with 12", n->none_between[2], 20 },
+            { "cancel that gives pages up", n->cancel_of_pages, 20 }, { "cancel that gives none up", n->cancel_of_none, 20 },
+            { "restart that gives pages up", n->restart_of_pages, 20 }, { "restart that gives none up", n->restart_of_none, 5 },
+            { "cancel or restart while a page waits", n->while_waiting, 5 },
+            { "cancel or restart while the channel's counter alone has wrapped", n->over_wrap, 5 });
+}
+
+/* The counters themselves, and what Release does about them. */
+static void counter_rows(struct table *t, const struct page_counts *n)
+{
+    TABLE_ADD_ROWS(t, { "channel counter from FFFF to 0000", n->wrap[CHANNEL], 5 }, { "transfer counter from FFFF to 0000", n->wrap[TRANSFER], 5 },
+            { "fuser counter from FFFF to 0000", n->wrap[FUSER], 5 }, { "stacker counter from FFFF to 0000", n->wrap[STACKER], 5 },
+            { "Release that leaves 32,767 pages between channel and stacker", n->most_out, 5 },
+            { "Release that counts a page and does the reset that is due", n->reset_counts, 5 },
+            { "Release refused with 13, a reset due", n->reset_waits, 5 },
+            { "number 9 for the counters alone: a page too many is out", n->too_many_out, 20 },
+            { "number 9 for the counters alone: transfer a page past the channel", n->transfer_ahead, 20 },
+            { "number 9 for the counters alone: fuser a page past transfer", n->fuser_ahead, 20 },
+            { "number 9 for the counters alone: stacker a page past the fuser", n->stacker_ahead, 20 });
+}
+
+/* Every call except Start judges the counters. */
+static void unreachable_rows(struct table *t, const struct page_counts *n)
+{
+    char name[NAME_ROOM];
+    for (enum call_kind i = CALL_COMMAND; i < CALL_KINDS; i++) {
+        snprintf(name, sizeof name, "number 9 for the counters alone: %s", call_name[i]);
+        table_add(t, name, n->unreachable[i], 5);
+    }
 }
 
 /* Refused Starts and damage. */
@@ -163,6 +200,9 @@ struct faults counts_print(const struct counts *n)
     command_rows(&t, n);
     form_rows(&t, n);
     page_rows(&t, n);
+    tally_rows(&t, &n->pages);
+    counter_rows(&t, &n->pages);
+    unreachable_rows(&t, &n->pages);
     damage_rows(&t, n);
     list_rows(&t, n);
     return table_print(&t);

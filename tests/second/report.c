@@ -23,18 +23,14 @@ static void print_lengths(const struct call *c)
 /* A call by its name, with its numbers if it has any. */
 static void print_name(const struct call *c)
 {
-    static const char *const names[] = {
-        [CALL_RELEASE] = "Release", [CALL_TRANSFERRED] = "Transferred", [CALL_FUSED] = "Fused", [CALL_STACKED] = "Stacked", [CALL_CANCEL] = "Cancel",
-        [CALL_RESTART] = "Restart"
-    };
+    printf("%s", call_name[c->kind]);
     if (c->kind == CALL_START)
-        printf("Start: form %u, pitches %u %u %u %u\n", c->form, c->pitch[0], c->pitch[1], c->pitch[2], c->pitch[3]);
+        printf(": form %u, pitches %u %u %u %u", c->form, c->pitch[0], c->pitch[1], c->pitch[2], c->pitch[3]);
     else if (c->kind == CALL_COMMAND)
-        printf("Command: %02X\n", c->command);
+        printf(": %02X", c->command);
     else if (c->kind == CALL_COMPOSE)
-        printf("Compose: copy %u\n", c->copy);
-    else
-        printf("%s\n", names[c->kind]);
+        printf(": copy %u", c->copy);
+    printf("\n");
 }
 
 void print_call(const struct call *c, const uint8_t *state)

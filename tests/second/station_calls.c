@@ -3,8 +3,8 @@
 
 #include <string.h>
 
-/* Chances in a thousand that a call is a station, cancel or restart call, by the pages that are out. */
-enum { PERMILLE_NONE_OUT = 20, PERMILLE_SOME_OUT = 90, PERMILLE_MOST_OUT = 250 };
+/* Chances in a thousand that a call is a station, cancel or restart call, by the pages that are out; damaged counters have one of their own. */
+enum { PERMILLE_NONE_OUT = 20, PERMILLE_SOME_OUT = 90, PERMILLE_MOST_OUT = 250, PERMILLE_DAMAGED = 400 };
 
 enum { STATIONS = COUNTERS - 1, NEAR_WRAP = 6, FEW_OUT = 5 };
 
@@ -21,11 +21,17 @@ unsigned counter_of(const uint8_t *state, unsigned counter)
 /* ---- calls ---- */
 
 /* With the most pages out only these calls let a page be released, so they come often then. */
+static unsigned permille_tally(const uint8_t *state)
+{
+    unsigned out = trestlepip_pages_between(counter_of(state, CHANNEL), counter_of(state, STACKER));
+    if (!trestlepip_counters_are_reachable(state))
+        return PERMILLE_DAMAGED;
+    return out == 0 ? PERMILLE_NONE_OUT : out == TRESTLEPIP_MOST_PAGES ? PERMILLE_MOST_OUT : PERMILLE_SOME_OUT;
+}
+
 bool tally_due(struct generator *g)
 {
-    const uint8_t *s = state_of(g);
-    unsigned out = trestlepip_pages_between(counter_of(s, CHANNEL), counter_of(s, STACKER));
-    return permille(g, out == 0 ? PERMILLE_NONE_OUT : out == TRESTLEPIP_MOST_PAGES ? PERMILLE_MOST_OUT : PERMILLE_SOME_OUT);
+    return permille(g, permille_tally(state_of(g)));
 }
 
 /* Whether a page can pass the station of this counter. */
@@ -44,9 +50,10 @@ static enum call_kind report(struct generator *g)
     return (enum call_kind)(CALL_TRANSFERRED + (first + passed) % STATIONS);
 }
 
+/* Cancels and restarts come seldom, so that pages get far. */
 void tally_call(struct generator *g, struct call *c)
 {
-    switch (WEIGHTED(g, 92, 5, 3)) {
+    switch (trestlepip_counters_are_reachable(state_of(g)) ? WEIGHTED(g, 92, 5, 3) : WEIGHTED(g, 60, 20, 20)) {
     case 0: c->kind = report(g); break;
     case 1: c->kind = CALL_CANCEL; break;
     default: c->kind = CALL_RESTART; break;
