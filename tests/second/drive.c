@@ -1,6 +1,7 @@
-/* The driver: runs lists of calls, or a script, on the library and on the second program, and compares what they give; or demand 3 on pairs. */
+/* The driver: runs lists of calls, the long list, or a script on the library and on the second program, and compares what they give; or demand 3 on pairs. */
 #include "counts.h"
 #include "demand3.h"
+#include "long_list.h"
 #include "programs.h"
 #include "run.h"
 #include "script.h"
@@ -13,6 +14,7 @@ static void usage(void)
 {
     fprintf(stderr, "drive: usage: drive [--calls N] [--seed S] [--lists L] [--guard] [--meet-all]; L is not above N\n"
             "              drive --demand-3 N [--seed S] [--meet-all]\n"
+            "              drive --long-list\n"
             "              drive --script FILE --expect FILE\n");
     exit(2);
 }
@@ -94,6 +96,8 @@ static bool all_holds(int count, char **arguments)
 {
     if (asks_for_script(count, arguments))
         return script_holds(arguments[2], arguments[4]);
+    if (count == 2 && strcmp(arguments[1], "--long-list") == 0)
+        return long_list_holds();
     struct options options = read_options(arguments + (count > 0 ? 1 : 0));
     return options.pairs != 0 ? demand_3_holds(options.pairs, options.seed, options.meet_all) : lists_hold(options);
 }

@@ -127,10 +127,8 @@ static bool agree(const struct run *r)
     return false;
 }
 
-/* One call on both programs. */
-static bool run_call(struct run *r)
+bool run_call(struct run *r)
 {
-    generator_next(&r->generator, trestlepip_number(r->second_answer), &r->call);
     settle_begin(&r->call, r->library == &r->guarded);
     apply_changes(r);
     apply_counters(r);
@@ -183,8 +181,7 @@ static bool sets_counters(unsigned long long list)
     return (four_of(list) / 2 + list / 2) % 2 == 0;
 }
 
-/* One list. */
-static bool run_list(struct run *r, unsigned long long calls)
+void begin_list(struct run *r)
 {
     r->library = is_guarded(r) ? &r->guarded : &r->plain;
     const struct set *s = &r->second;
@@ -194,9 +191,19 @@ static bool run_list(struct run *r, unsigned long long calls)
     lay_stores(r);
     lay_buffers(r->library);
     lay_buffers(&r->second);
-    for (r->call_in_list = 1; r->call_in_list <= calls; r->call_in_list++)
+    r->call_in_list = 0;
+}
+
+/* One list. */
+static bool run_list(struct run *r, unsigned long long calls)
+{
+    begin_list(r);
+    while (r->call_in_list < calls) {
+        r->call_in_list++;
+        generator_next(&r->generator, trestlepip_number(r->second_answer), &r->call);
         if (!run_call(r))
             return false;
+    }
     counts_end_list(&r->counts);
     return true;
 }

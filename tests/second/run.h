@@ -32,6 +32,12 @@ unsigned long long usual_lists(unsigned long long calls);
 /* Makes the sets, and room for the stores before the call. */
 void make_buffers(struct run *r);
 
+/* Lays out the stores and buffers of the run's list, and begins its generator. */
+void begin_list(struct run *r);
+
+/* Makes the run's call on both programs, and counts it; false once a difference has been printed. */
+bool run_call(struct run *r);
+
 /* Runs all lists; false once a difference has been printed. */
 bool run_lists(struct run *r);
 
