@@ -106,7 +106,7 @@ static bool is_meant(char letter, size_t count)
     switch (letter) {
     case 'S': return count == 6;
     case 'C': return count == 2;
-    case 'R': return count == 0;
+    case 'R': case 'T': case 'U': case 'K': case 'X': case 'N': return count == 0;
     case 'P': return count == 2;
     case 'G': return count == 3;
     case 'L': return count == 2 * STORES;
@@ -166,7 +166,17 @@ static void tell_answer(FILE *to, uint64_t answer)
     tell_count(to, "count", trestlepip_unprintables(answer));
 }
 
-/* The sense, the current line, and that line's first cell if the page has it. */
+/* The bytes of the page counters, left out where all are 00. */
+static void tell_pages(FILE *to, const uint8_t *counters)
+{
+    if (count_other(counters, 0, COUNTER_BYTES) == 0)
+        return;
+    fprintf(to, " pages");
+    for (size_t i = 0; i < COUNTER_BYTES; i++)
+        fprintf(to, " %02X", counters[i]);
+}
+
+/* The sense, the current line, that line's first cell if the page has it, and the page counters. */
 static void tell_state(FILE *to, const uint8_t *state, const uint8_t *page)
 {
     size_t line = state[TRESTLEPIP_AT_LINE];
@@ -174,6 +184,7 @@ static void tell_state(FILE *to, const uint8_t *state, const uint8_t *page)
             state[TRESTLEPIP_AT_SENSE_22], state[TRESTLEPIP_AT_SENSE_23], line);
     if (line != 0 && line * TRESTLEPIP_LINE_CELLS <= TRESTLEPIP_PAGE_BYTES)
         fprintf(to, " cell %02X", page[(line - 1) * TRESTLEPIP_LINE_CELLS]);
+    tell_pages(to, state + TRESTLEPIP_AT_CHANNEL_PAGE);
 }
 
 /* How many bytes of each store have changed, also of one byte after it; then how many are not 00. */
@@ -230,6 +241,11 @@ static uint64_t make_call(struct player *p, const struct line *l)
     case 'S': return p->exports.start(double_of(g), g[2], g[3], g[4], g[5], PART_STORES);
     case 'C': return p->exports.compose(double_of(g), PART(BUFFER), PART_STORES);
     case 'R': return p->exports.release(PART_STORES);
+    case 'T': return p->exports.transferred(PART_STORES);
+    case 'U': return p->exports.fused(PART_STORES);
+    case 'K': return p->exports.stacked(PART_STORES);
+    case 'X': return p->exports.cancel(PART_STORES);
+    case 'N': return p->exports.restart(PART_STORES);
     default: return p->exports.command(g[0], g + 1, l->count - 1, PART(BUFFER), PART_STORES);
     }
 }
