@@ -1,5 +1,6 @@
-/* Demand 3, run on the library: two printers started alike have pasts of their own up to a finished reset. Then the same accepted
- * commands and releases, the deeds, are done on both, and on each some other calls, which demand 3 leaves out. */
+/* Demand 3, run on the library: two printers started alike have pasts of their own up to a finished reset, after which their page counters agree.
+ * Then the same deeds are done on both, accepted commands, releases, and station, cancel and restart calls; and on each some other calls, which demand 3
+ * leaves out. */
 #include "demand3.h"
 
 #include "counts.h"
@@ -10,20 +11,27 @@
 #include <stdio.h>
 #include <string.h>
 
-enum { PAST_MOST = 400, DEEDS_MOST = 400, LEFT_OUT_MOST = 8, TRIES_MOST = 100000, COPIES_MOST = 255, PERMILLE_WRONG_SIZE = 20 };
+enum { PAST_MOST = 400, DEEDS_MOST = 400, LEFT_OUT_MOST = 8, TRIES_MOST = 100000, COPIES_MOST = 255, PERMILLE_WRONG_SIZE = 20, GAP_MOST = 3 };
+
+/* How the counters of a pair come to agree at the reset: by calls; set in the state's bytes, before the pasts too; or because nothing was counted. */
+enum way { BY_CALLS, BY_BYTES, UNCOUNTED, WAYS };
 
 /* What the pairs met; calls left out are counted from the reset on. */
 struct met {
     unsigned long start_alone, at_once, deferred, each_way, switch_on, switch_off;
-    unsigned long unlike[STORES];
-    unsigned long past_calls, commands, releases, resets;
+    unsigned long unlike[STORES], counters_unlike[WAYS], counters_zero[WAYS];
+    unsigned long past_calls, deeds[CALL_KINDS], resets;
     unsigned long refused[NUMBERS], no_op, sense, compose;
     unsigned long pages, pages_with_legends, copies;
 };
 
-/* A run: the pair, the generator of its deeds, and what all pairs met. */
+/* A run: the pair, the way of its counters and the goal that both printers' reach a page before they agree, the generator of its deeds, and what all
+ * pairs met. */
 struct demand_3 {
     struct pair pair;
+    enum way way;
+    unsigned goal[COUNTERS];
+    uint8_t goal_bytes[COUNTER_BYTES];
     struct generator deeds;
     struct met met;
 };
@@ -56,28 +64,77 @@ static void start_pair(struct demand_3 *d)
         p->side[i].answer = pair_call(p, &p->side[i].set, &p->deed);
 }
 
-/* A past of the printer's own. */
+static void set_counters(struct side *s, const uint8_t bytes[COUNTER_BYTES])
+{
+    memcpy(store(&s->set, STATE) + TRESTLEPIP_AT_CHANNEL_PAGE, bytes, COUNTER_BYTES);
+}
+
+/* Whether the call would complete a page. */
+static bool completes(const struct pair *p, const struct side *s)
+{
+    return trestlepip_ready(answer_on_copy(p, &s->set, &s->call)) == 1;
+}
+
+/* A past of the printer's own; if nothing is to be counted, it completes no page. */
 static void live_past(struct demand_3 *d, struct side *s)
 {
     for (unsigned left = between(&s->generator, 1, PAST_MOST); left > 0; left--) {
         generator_next(&s->generator, trestlepip_number(s->answer), &s->call);
+        if (d->way == UNCOUNTED && completes(&d->pair, s))
+            continue;
         s->answer = pair_call(&d->pair, &s->set, &s->call);
         d->met.past_calls++;
     }
 }
 
-/* The switch is set, and the printer brought to where one call finishes a reset: no page is started, or one waits for which the reset is due. */
-static void approach_reset(const struct pair *p, struct side *s, bool switch_on)
+/* A page is completed by Clear, or by Initialize for a reset that is due. */
+static void complete_page(const struct pair *p, struct side *s, uint8_t command)
 {
-    pair_release(p, s);
-    pair_command(p, s, switch_on ? TRESTLEPIP_BLOCK : TRESTLEPIP_ALLOW);
-    if (s->deferred) {
-        pair_command(p, s, TRESTLEPIP_WRITE_NO_SPACE);
-        pair_command(p, s, TRESTLEPIP_INITIALIZE);
-    } else {
-        pair_command(p, s, TRESTLEPIP_CLEAR);
+    pair_command(p, s, TRESTLEPIP_WRITE_NO_SPACE);
+    pair_command(p, s, command);
+}
+
+static void release_pages(const struct pair *p, struct side *s, unsigned times)
+{
+    for (unsigned i = 0; i < times; i++) {
+        complete_page(p, s, TRESTLEPIP_CLEAR);
         pair_release(p, s);
     }
+}
+
+static void pass_pages(const struct pair *p, struct side *s, enum call_kind station, unsigned times)
+{
+    for (unsigned i = 0; i < times; i++)
+        pair_tally(p, s, station);
+}
+
+/* Calls lead to the goal from counters that are all the stacker's. */
+static void reach_goal(const struct pair *p, struct side *s, const unsigned goal[COUNTERS])
+{
+    unsigned from = counter_of(store(&s->set, STATE), STACKER);
+    release_pages(p, s, goal[CHANNEL] - from);
+    pass_pages(p, s, CALL_TRANSFERRED, goal[TRANSFER] - from);
+    pass_pages(p, s, CALL_FUSED, goal[FUSER] - from);
+    pass_pages(p, s, CALL_STACKED, goal[STACKER] - from);
+}
+
+/* The switch is set, the counters are brought to the goal, and the printer to where one call finishes a reset: no page is started, or one waits for which
+ * the reset is due. Either way one page more is counted up to the reset. The first restart lets a page go that waits while the most are out, the
+ * second takes its count back. */
+static void approach_reset(struct demand_3 *d, struct side *s, bool switch_on)
+{
+    const struct pair *p = &d->pair;
+    pair_tally(p, s, CALL_RESTART);
+    pair_release(p, s);
+    pair_tally(p, s, CALL_RESTART);
+    if (d->way == BY_BYTES)
+        set_counters(s, d->goal_bytes);
+    else
+        reach_goal(p, s, d->goal);
+    pair_command(p, s, switch_on ? TRESTLEPIP_BLOCK : TRESTLEPIP_ALLOW);
+    complete_page(p, s, s->deferred ? TRESTLEPIP_INITIALIZE : TRESTLEPIP_CLEAR);
+    if (!s->deferred)
+        pair_release(p, s);
 }
 
 static void finish_reset(struct demand_3 *d, struct side *s)
@@ -99,15 +156,51 @@ static void count_pasts(struct demand_3 *d, bool switch_on)
     d->met.switch_off += !switch_on;
 }
 
+/* Different pasts, which begin with different counters if these are set. */
+static void live_pasts(struct demand_3 *d)
+{
+    uint8_t bytes[COUNTER_BYTES];
+    for (unsigned i = 0; i < SIDES; i++) {
+        struct side *s = &d->pair.side[i];
+        reachable_counters(&s->generator, TRESTLEPIP_MOST_PAGES, bytes);
+        if (d->way == BY_BYTES)
+            set_counters(s, bytes);
+        live_past(d, s);
+    }
+}
+
+/* Both ways of bringing the counters to agree get their goal; no stacker has to go back for it, and there is room for the page that is counted last. */
+static void choose_goal(struct demand_3 *d)
+{
+    unsigned a = counter_of(store(&d->pair.side[0].set, STATE), STACKER), b = counter_of(store(&d->pair.side[1].set, STATE), STACKER);
+    d->goal[STACKER] = a > b ? a : b;
+    for (unsigned i = STACKER; i > CHANNEL; i--)
+        d->goal[i - 1] = d->goal[i] + (d->way == UNCOUNTED ? 0 : below(&d->deeds, GAP_MOST + 1));
+    reachable_counters(&d->deeds, TRESTLEPIP_MOST_PAGES - 1, d->goal_bytes);
+}
+
+/* How the counters stand after the pasts. */
+static void count_counters(struct demand_3 *d)
+{
+    static const uint8_t zeros[COUNTER_BYTES];
+    const uint8_t *a = store(&d->pair.side[0].set, STATE) + TRESTLEPIP_AT_CHANNEL_PAGE;
+    const uint8_t *b = store(&d->pair.side[1].set, STATE) + TRESTLEPIP_AT_CHANNEL_PAGE;
+    d->met.counters_unlike[d->way] += memcmp(a, b, COUNTER_BYTES) != 0;
+    d->met.counters_zero[d->way] += memcmp(a, zeros, COUNTER_BYTES) == 0 && memcmp(b, zeros, COUNTER_BYTES) == 0;
+}
+
 /* Different pasts, and a finished reset on each printer with the switch alike. */
 static void reset_pair(struct demand_3 *d)
 {
     bool switch_on = percent(&d->deeds, 50);
+    d->way = (enum way)WEIGHTED(&d->deeds, 40, 40, 20);
+    live_pasts(d);
+    count_counters(d);
+    choose_goal(d);
     for (unsigned i = 0; i < SIDES; i++) {
         struct side *s = &d->pair.side[i];
         s->deferred = percent(&d->deeds, 50);
-        live_past(d, s);
-        approach_reset(&d->pair, s, switch_on);
+        approach_reset(d, s, switch_on);
     }
     count_pasts(d, switch_on);
     for (unsigned i = 0; i < SIDES; i++)
@@ -116,7 +209,7 @@ static void reset_pair(struct demand_3 *d)
 
 /* ---- deeds ---- */
 
-/* Demand 3 speaks of accepted commands and releases; it leaves out No-Op, Sense, Compose and what is refused. */
+/* Demand 3 speaks of accepted commands, releases, and station, cancel and restart calls; it leaves out No-Op, Sense, Compose and what is refused. */
 static bool is_deed(const struct call *c, uint64_t answer)
 {
     bool no_op_or_sense = c->kind == CALL_COMMAND && (c->command == TRESTLEPIP_NO_OP || c->command == TRESTLEPIP_SENSE);
@@ -134,10 +227,10 @@ static void count_left_out(struct met *m, const struct call *c, uint64_t answer)
 
 static void count_deed(struct met *m, const struct call *c, uint64_t answer, const uint8_t *state_before)
 {
-    bool released = c->kind == CALL_RELEASE;
-    m->releases += released;
-    m->commands += !released;
-    m->resets += released ? state_before[TRESTLEPIP_AT_RESET_DUE] == 1 : c->command == TRESTLEPIP_INITIALIZE && !trestlepip_ready(answer);
+    bool initialized = c->kind == CALL_COMMAND && c->command == TRESTLEPIP_INITIALIZE;
+    m->deeds[c->kind]++;
+    m->resets += c->kind == CALL_RELEASE && state_before[TRESTLEPIP_AT_RESET_DUE] == 1;
+    m->resets += initialized && !trestlepip_ready(answer);
 }
 
 /* Some calls that demand 3 leaves out, of this printer's own; a copy shows first whether a call is one. */
@@ -238,14 +331,26 @@ static bool pair_agrees(struct demand_3 *d)
     return stores_agree(&d->pair) && left_out_agrees(d) && deeds_agree(d);
 }
 
-/* Every number that a call other than Start can get. */
+/* Every number that a call other than Start can get; 10 is Start's, and 11 cannot occur. */
 static void refused_rows(struct table *t, const struct met *m)
 {
     char name[NAME_ROOM];
-    for (unsigned i = TRESTLEPIP_NOT_LISTED; i <= TRESTLEPIP_BAD_STORE; i++) {
+    for (unsigned i = TRESTLEPIP_NOT_LISTED; i < NUMBERS; i++) {
+        bool possible = i != TRESTLEPIP_BAD_FORM && i != TRESTLEPIP_TWO_PAGES;
         snprintf(name, sizeof name, "left out: refused with number %u", i);
-        table_add(t, name, m->refused[i], 1);
+        table_add(t, name, m->refused[i], possible ? 1 : NEVER);
     }
+}
+
+/* The deeds by the call; a Compose is none, and a Start comes before them. */
+static void deed_rows(struct table *t, const struct met *m)
+{
+    char name[NAME_ROOM];
+    for (enum call_kind i = CALL_COMMAND; i < CALL_KINDS; i++) {
+        snprintf(name, sizeof name, "deed: %s", call_name[i]);
+        table_add(t, name, m->deeds[i], i == CALL_COMPOSE ? NEVER : 1);
+    }
+    table_add(t, "deed that finished a reset", m->resets, 1);
 }
 
 static void reset_rows(struct table *t, const struct met *m)
@@ -256,15 +361,18 @@ static void reset_rows(struct table *t, const struct met *m)
             { "pair whose states differed before the reset", m->unlike[STATE], 1 },
             { "pair whose pages differed before the reset", m->unlike[PAGE], 1 },
             { "pair whose legends differed before the reset", m->unlike[LEGENDS], 1 },
-            { "pair whose tables differed before the reset", m->unlike[TABLES], 1 }, { "call in a past", m->past_calls, 1 });
+            { "pair whose tables differed before the reset", m->unlike[TABLES], 1 },
+            { "pair whose counters differed, and agree at the reset by calls", m->counters_unlike[BY_CALLS], 1 },
+            { "pair whose counters differed, and are set to agree at the reset", m->counters_unlike[BY_BYTES], 1 },
+            { "pair that had counted nothing before the page of the reset", m->counters_zero[UNCOUNTED], 1 },
+            { "call in a past", m->past_calls, 1 });
 }
 
 static struct faults print_met(const struct met *m)
 {
     struct table t = { .count = 0 };
     reset_rows(&t, m);
-    TABLE_ADD_ROWS(&t, { "deed: accepted command", m->commands, 1 }, { "deed: accepted Release", m->releases, 1 },
-            { "deed that finished a reset", m->resets, 1 });
+    deed_rows(&t, m);
     refused_rows(&t, m);
     TABLE_ADD_ROWS(&t, { "left out: No-Op", m->no_op, 1 }, { "left out: Sense", m->sense, 1 }, { "left out: Compose", m->compose, 1 },
             { "page compared", m->pages, 1 }, { "page with legends compared", m->pages_with_legends, 1 }, { "copy compared", m->copies, 1 });
@@ -283,5 +391,5 @@ bool demand_3_holds(unsigned long long pairs, unsigned long long seed, bool meet
             return false;
     struct faults f = print_met(&d.met);
     printf("demand 3: %llu pair%s, seed %llu: 0 differences\n", pairs, pairs == 1 ? "" : "s", seed);
-    return f.missing == 0 || !meet_all;
+    return f.forbidden == 0 && (f.missing == 0 || !meet_all);
 }

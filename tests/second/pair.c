@@ -125,6 +125,11 @@ uint64_t pair_release(const struct pair *p, struct side *s)
     return own_call(p, s, &(struct call){ .kind = CALL_RELEASE });
 }
 
+uint64_t pair_tally(const struct pair *p, struct side *s, enum call_kind kind)
+{
+    return own_call(p, s, &(struct call){ .kind = kind });
+}
+
 uint64_t pair_compose(const struct pair *p, struct side *s, uint32_t copy)
 {
     return own_call(p, s, &(struct call){ .kind = CALL_COMPOSE, .copy = copy, .buffer_len = OUT_ROOM });

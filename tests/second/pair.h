@@ -35,9 +35,11 @@ uint64_t pair_call(const struct pair *p, const struct set *s, const struct call 
 /* The answer that a call would get from a printer, found on a copy of it. */
 uint64_t answer_on_copy(const struct pair *p, const struct set *s, const struct call *c);
 
-/* Calls with the right sizes: a command with a record of one byte, which only a write reads; Release; Compose. */
+/* Calls with the right sizes: a command with a record of one byte, which only a write reads; Release; a station, cancel or
+ * restart call; Compose. */
 uint64_t pair_command(const struct pair *p, struct side *s, uint8_t command);
 uint64_t pair_release(const struct pair *p, struct side *s);
+uint64_t pair_tally(const struct pair *p, struct side *s, enum call_kind kind);
 uint64_t pair_compose(const struct pair *p, struct side *s, uint32_t copy);
 
 /* Whether a store is alike on both printers; the sense in the state need not be. */
