@@ -67,7 +67,7 @@ bool translates(const struct call *c);
 /* Whether the call is one of the five that change the page counters alone. */
 bool is_tally(const struct call *c);
 
-/* What the generator keeps from call to call. A calm one makes no Start except the first, and damages nothing. Any sets counters only if it is told
+/* What the generator keeps from call to call. A calm one makes no Start except the first, and damages nothing. None sets counters unless it is told
  * how often. */
 struct generator {
     uint64_t word[4];

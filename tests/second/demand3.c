@@ -25,7 +25,7 @@ struct met {
     unsigned long pages, pages_with_legends, copies;
 };
 
-/* A run: the pair, the way of its counters and the goal that both printers' reach a page before they agree, the generator of its deeds, and what all
+/* A run: the pair, the way of its counters and the goal that they are brought to, one page before they agree; the generator of its deeds, and what all
  * pairs met. */
 struct demand_3 {
     struct pair pair;
@@ -108,14 +108,14 @@ static void pass_pages(const struct pair *p, struct side *s, enum call_kind stat
         pair_tally(p, s, station);
 }
 
-/* Calls lead to the goal from counters that are all the stacker's. */
+/* Calls lead to the goal from counters that are all the stacker's; modulo 65,536 the loops end whatever the library left there. */
 static void reach_goal(const struct pair *p, struct side *s, const unsigned goal[COUNTERS])
 {
     unsigned from = counter_of(store(&s->set, STATE), STACKER);
-    release_pages(p, s, goal[CHANNEL] - from);
-    pass_pages(p, s, CALL_TRANSFERRED, goal[TRANSFER] - from);
-    pass_pages(p, s, CALL_FUSED, goal[FUSER] - from);
-    pass_pages(p, s, CALL_STACKED, goal[STACKER] - from);
+    release_pages(p, s, trestlepip_pages_between(goal[CHANNEL], from));
+    pass_pages(p, s, CALL_TRANSFERRED, trestlepip_pages_between(goal[TRANSFER], from));
+    pass_pages(p, s, CALL_FUSED, trestlepip_pages_between(goal[FUSER], from));
+    pass_pages(p, s, CALL_STACKED, trestlepip_pages_between(goal[STACKER], from));
 }
 
 /* The switch is set, the counters are brought to the goal, and the printer to where one call finishes a reset: no page is started, or one waits for which

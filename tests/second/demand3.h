@@ -1,4 +1,4 @@
-/* Demand 3, run: pairs of printers that agree since a finished reset, whatever came before it. */
+/* Demand 3, run: pairs of printers that agree since a finished reset, whatever came before it, if their page counters agree there. */
 #ifndef DEMAND3_H
 #define DEMAND3_H
 

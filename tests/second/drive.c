@@ -1,4 +1,5 @@
-/* The driver: runs lists of calls, the long list, or a script on the library and on the second program, and compares what they give; or demand 3 on pairs. */
+/* The driver: runs lists of calls, the long list, or a script on the library and on the second program, and compares what they give; or demand 3 on
+ * pairs. */
 #include "counts.h"
 #include "demand3.h"
 #include "long_list.h"

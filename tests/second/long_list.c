@@ -1,5 +1,5 @@
-/* The long list (T-02): no byte of a store is set, and yet each counter goes on from FFFF to 0000, and releases are refused with 13. What the list leads to
- * stands here, so that it does not rest on the second program. */
+/* The long list (T-02): no byte of a store is set, and yet each counter goes on from FFFF to 0000, and releases are refused with 13. What each step
+ * leads to stands here, so that it does not rest on the second program. */
 #include "long_list.h"
 
 #include "programs.h"
@@ -28,6 +28,7 @@ static const struct step steps[] = {
     { NO_PAGE, CALL_STACKED, 1, 12, { 0x7FFF, 0, 0, 0 } },
     { NO_PAGE, CALL_TRANSFERRED, 32767, 0, { 0x7FFF, 0x7FFF, 0, 0 } },
     { NO_PAGE, CALL_TRANSFERRED, 1, 12, { 0x7FFF, 0x7FFF, 0, 0 } },
+    { NO_PAGE, CALL_STACKED, 1, 12, { 0x7FFF, 0x7FFF, 0, 0 } },
     { NO_PAGE, CALL_FUSED, 32767, 0, { 0x7FFF, 0x7FFF, 0x7FFF, 0 } },
     { NO_PAGE, CALL_FUSED, 1, 12, { 0x7FFF, 0x7FFF, 0x7FFF, 0 } },
     { NO_PAGE, CALL_RELEASE, 1, 13, { 0x7FFF, 0x7FFF, 0x7FFF, 0 } },
