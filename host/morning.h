@@ -69,7 +69,7 @@ void *grown(void *(*allocate)(void *array, size_t bytes), void *array, size_t co
 /*
  * A printer with all that the host keeps of it: the four buffers lent to every call, one to compose in, where the output goes and how it is to look.
  * `only` is the number of the one copy to print, 0 for all. `sheet` is the sheet in work, NULL before the first, `complete` the
- * number of the latest that is out; `line` and `call` say what is done.
+ * number of the latest that is out, `pages` how many came to the stacker; `line` and `call` say what is done.
  */
 struct spool {
     uint8_t state[TRESTLEPIP_STATE_BYTES];
@@ -82,9 +82,9 @@ struct spool {
     unsigned only;
     bool heads, begun, stopped, all_held;
     struct sheet *sheet;
-    size_t complete;
+    size_t complete, pages;
     unsigned line;
-    char call[sizeof "command 00"];
+    char call[sizeof "transferred"];
 };
 
 /* The lent buffers of a spool, in the order in which every call takes them. */
@@ -99,6 +99,9 @@ void spool_send(struct spool *spool, uint8_t command, const uint8_t *record, siz
 /* The same for the weight that fills a sheet: channel 12 has to come with it, and with no other command. */
 void spool_send_last(struct spool *spool, uint8_t command, const uint8_t *record, size_t length);
 
+/* Reports the page that was released past each station, and counts it when it is stacked. */
+void spool_pass_stations(struct spool *spool);
+
 /* Writes the composed copy as text, unless another is the only one wanted: its lines up to the last that is not blank. */
 void show_copy(struct spool *spool, uint64_t answer);
 
@@ -108,7 +111,7 @@ void report_checks(const struct spool *spool, uint64_t answer, const uint8_t *se
 void report_channel_12(const struct spool *spool, bool came);
 void report_not_written(const struct spool *spool);
 
-/* Says which sheets are to be held back and, of a job that stopped, which are out. Returns how the run ends. */
+/* Says which sheets are to be held back, of a job that stopped which are out, and last how many pages went out. Returns how the run ends. */
 enum endings report_end(const struct spool *spool, const struct plan *plan);
 
 /* How many characters the text has. */

@@ -88,7 +88,7 @@ static bool report_held(FILE *to, const struct plan *plan)
     return any;
 }
 
-enum endings report_end(const struct spool *spool, const struct plan *plan)
+static enum endings report_sheets(const struct spool *spool, const struct plan *plan)
 {
     bool any_held = spool->all_held || report_held(spool->reports, plan);
     if (spool->all_held)
@@ -100,4 +100,11 @@ enum endings report_end(const struct spool *spool, const struct plan *plan)
     else
         fprintf(spool->reports, SAYS_NONE_OUT);
     return STOPPED;
+}
+
+enum endings report_end(const struct spool *spool, const struct plan *plan)
+{
+    enum endings ending = report_sheets(spool, plan);
+    fprintf(spool->reports, SAYS_PAGES, spool->pages);
+    return ending;
 }

@@ -1,4 +1,4 @@
-/* The printer as the spooler drives it: each answer is looked at, refusals and checks are reported, completed pages printed and released. */
+/* The printer as the spooler drives it: each answer is looked at, refusals and checks are reported, completed pages printed, released and counted. */
 #include <string.h>
 
 #include "morning.h"
@@ -89,6 +89,31 @@ static void flush_sheets(struct spool *spool)
     spool->stopped = true;
 }
 
+/* The stations of the paper's way, in its order, each with the call that says that a page passed it. */
+static const struct {
+    const char *call;
+    uint64_t (*passed)(uint8_t *, size_t, const uint8_t *, size_t, const uint8_t *, size_t, const uint8_t *, size_t);
+} stations[] = {
+    {"transferred", trestlepip_transferred},
+    {"fused", trestlepip_fused},
+    {"stacked", trestlepip_stacked},
+};
+
+/*
+ * A page went out when it is stacked: until then a cancel or a restart takes it back. Pages are added up one by one, since the stacker's counter goes
+ * round, and a state that is damaged later cannot be asked.
+ */
+void spool_pass_stations(struct spool *spool)
+{
+    unsigned before = trestlepip_stacker_page(spool->state);
+    for (size_t i = 0; i < sizeof stations / sizeof *stations && !spool->stopped; i++) {
+        begin_call(spool, stations[i].call);
+        stop_if_refused(spool, stations[i].passed(STORES(spool)));
+    }
+    if (!spool->stopped)
+        spool->pages += trestlepip_pages_between(trestlepip_stacker_page(spool->state), before);
+}
+
 /* A page is released only when all its copies are out; one that stopped between them is to be held back. */
 static void print_page(struct spool *spool)
 {
@@ -103,6 +128,7 @@ static void print_page(struct spool *spool)
     spool->complete = spool->sheet->number;
     begin_call(spool, "release");
     stop_if_refused(spool, trestlepip_release(STORES(spool)));
+    spool_pass_stations(spool);
 }
 
 void spool_start(struct spool *spool, uint32_t form)

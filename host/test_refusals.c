@@ -1,6 +1,6 @@
 /*
- * Provokes each refusal and each cause that a host can provoke, each check, and want of memory, and holds the reports to the texts of docs/NUMBERS.md,
- * whose path is the argument. All reports go to standard error too, for host/test_morning.
+ * Provokes each refusal that a host can provoke, which is all except number 11, each cause, each check, and want of memory, and holds the reports to
+ * the texts of docs/NUMBERS.md, whose path is the argument. All reports go to standard error too, for host/test_morning.
  */
 #include <stdlib.h>
 #include <string.h>
@@ -8,7 +8,7 @@
 #include "messages.h"
 #include "morning.h"
 
-enum { ROOM = 1024, FORM = 84, LISTED_NUMBERS = 10, LISTED_CAUSES = 10 };
+enum { ROOM = 1024, FORM = 84, LAST_NUMBER = TRESTLEPIP_MOST_BETWEEN, LISTED_CAUSES = 10 };
 
 static unsigned failures;
 
@@ -31,7 +31,7 @@ static FILE *scratch(void)
 }
 
 /* Reads back what was written to a file, as one string, and closes it. */
-static const char *written(FILE *file)
+static char *written(FILE *file)
 {
     static char text[ROOM];
     rewind(file);
@@ -53,30 +53,43 @@ static void begin(uint32_t form)
     memset(&spool, 0, sizeof spool);
     spool.sheets = scratch();
     spool.reports = scratch();
+    spool.between = "";
     spool_start(&spool, form);
 }
 
-/* Ends the run, and returns all its reports. */
-static const char *reports(enum endings ending, unsigned number)
+/* Takes the last report off, which says that so many pages went out. */
+static void take_pages(char *text, size_t pages, unsigned number)
+{
+    char last[ROOM];
+    size_t all = strlen(text), length = (size_t)snprintf(last, sizeof last, SAYS_PAGES, pages);
+    bool counted = all >= length && strcmp(text + all - length, last) == 0;
+    check(counted, "other pages went out, after", number);
+    if (counted)
+        text[all - length] = '\0';
+}
+
+/* Ends the run, and returns its reports up to the last, which says that so many pages went out. */
+static const char *reports(enum endings ending, size_t pages, unsigned number)
 {
     enum endings ended = report_end(&spool, &plan);
-    const char *text = written(spool.reports);
+    char *text = written(spool.reports);
     fputs(text, stderr);
     check(ended == ending, "wrong ending after", number);
+    take_pages(text, pages, number);
     fclose(spool.sheets);
     return text;
 }
 
 /* Ends the run, and looks for a line among its reports. */
-static void end(enum endings ending, const char *line, const char *what, unsigned number)
+static void end(enum endings ending, size_t pages, const char *line, const char *what, unsigned number)
 {
-    check(strstr(reports(ending, number), line) != NULL, what, number);
+    check(strstr(reports(ending, pages, number), line) != NULL, what, number);
 }
 
 /* Ends the run, and asks for these reports and no others. */
-static void end_with(enum endings ending, const char *all, const char *what, unsigned number)
+static void end_with(enum endings ending, size_t pages, const char *all, const char *what, unsigned number)
 {
-    check(strcmp(reports(ending, number), all) == 0, what, number);
+    check(strcmp(reports(ending, pages, number), all) == 0, what, number);
 }
 
 enum { LETTER = 0xC1, NO_LETTER = 0x3F };
@@ -89,7 +102,28 @@ static void complete_page(void)
     trestlepip_command(TRESTLEPIP_CLEAR, NULL, 0, NULL, 0, STORES(&spool));
 }
 
-/* Numbers 6 and 7 cannot come by the spooler's way, which stops at neither; the calls are made beside it. */
+/* Sets the printer's page counters, behind the spooler's back: the channel's, and the other three alike. */
+static void set_counters(unsigned channel, unsigned others)
+{
+    for (size_t at = TRESTLEPIP_AT_CHANNEL_PAGE; at < TRESTLEPIP_AFTER_ALL; at += 2) {
+        unsigned counter = at == TRESTLEPIP_AT_CHANNEL_PAGE ? channel : others;
+        spool.state[at] = (uint8_t)(counter / 256);
+        spool.state[at + 1] = (uint8_t)(counter % 256);
+    }
+}
+
+/* Prints a sheet with one letter. */
+static void print_sheet(void)
+{
+    spool.sheet = &sheet;
+    spool_send(&spool, TRESTLEPIP_WRITE_NO_SPACE, letter, sizeof letter);
+    spool_send(&spool, TRESTLEPIP_CLEAR, NULL, 0);
+}
+
+/*
+ * Numbers 6 and 7 cannot come by the spooler's way, which stops at neither; the calls are made beside it. Number 12 comes to stations that are told of
+ * a page when none was released.
+ */
 static void provoke(unsigned number)
 {
     switch (number) {
@@ -124,8 +158,15 @@ static void provoke(unsigned number)
         memset(spool.state, 0, sizeof spool.state);
         spool_send(&spool, TRESTLEPIP_CLEAR, NULL, 0);
         break;
-    default:
+    case TRESTLEPIP_BAD_FORM:
         spool_start(&spool, 100);
+        break;
+    case TRESTLEPIP_NONE_BETWEEN:
+        spool_pass_stations(&spool);
+        break;
+    default:
+        set_counters(TRESTLEPIP_MOST_PAGES, 0);
+        print_sheet();
     }
 }
 
@@ -177,7 +218,7 @@ static void check_number(FILE *page, unsigned number)
     provoke(number);
     check(spool.stopped || number == TRESTLEPIP_NO_PAGE || number == TRESTLEPIP_BAD_INDEX, "the job went on after refusal", number);
     spool.stopped = true;
-    end(STOPPED, line, "not reported as on the page: refusal", number);
+    end(STOPPED, 0, line, "not reported as on the page: refusal", number);
 }
 
 static void check_cause(FILE *page, unsigned cause)
@@ -189,7 +230,7 @@ static void check_cause(FILE *page, unsigned cause)
     spool_send(&spool, faults[cause - 1].command, faults[cause - 1].record, faults[cause - 1].length);
     spool_send(&spool, TRESTLEPIP_WRITE_NO_SPACE, letter, sizeof letter);
     check(spool.state[TRESTLEPIP_AT_WRITTEN] == 0, "the job went on after cause", cause);
-    end(STOPPED, line, "not reported as on the page: cause", cause);
+    end(STOPPED, 0, line, "not reported as on the page: cause", cause);
 }
 
 /* Parts of what is said: where a report begins, how that of an unprintable byte ends, another check, the sheet to hold back. */
@@ -228,7 +269,7 @@ static void check_check(FILE *page, size_t i)
     spool_send(&spool, checks[i].before, letter, sizeof letter);
     spool_send(&spool, checks[i].command, checks[i].record, 1);
     spool_send(&spool, TRESTLEPIP_CLEAR, NULL, 0);
-    end_with(HOLD_BACK, line, "not reported: check", (unsigned)i);
+    end_with(HOLD_BACK, 1, line, "not reported: check", (unsigned)i);
 }
 
 /*
@@ -271,7 +312,7 @@ static void check_unprintable(FILE *page, size_t i)
         spool_send(&spool, unprintables[i].command, bad_line, sizeof bad_line);
     }
     spool_send(&spool, TRESTLEPIP_CLEAR, NULL, 0);
-    end_with(HOLD_BACK, all, "not reported: unprintable", (unsigned)i);
+    end_with(HOLD_BACK, spool.sheet ? 1 : 0, all, "not reported: unprintable", (unsigned)i);
 }
 
 /* Block by itself is no reason to hold a sheet back. */
@@ -279,10 +320,8 @@ static void check_good_line(void)
 {
     begin(FORM);
     spool_send(&spool, TRESTLEPIP_BLOCK, NULL, 0);
-    spool.sheet = &sheet;
-    spool_send(&spool, TRESTLEPIP_WRITE_NO_SPACE, letter, sizeof letter);
-    spool_send(&spool, TRESTLEPIP_CLEAR, NULL, 0);
-    end_with(ALL_GOOD, "", "reported, though good, after", TRESTLEPIP_BLOCK);
+    print_sheet();
+    end_with(ALL_GOOD, 1, "", "reported, though good, after", TRESTLEPIP_BLOCK);
 }
 
 static void check_no_channel_12(void)
@@ -293,7 +332,7 @@ static void check_no_channel_12(void)
     spool_send(&spool, TRESTLEPIP_CLEAR, NULL, 0);
     check(spool.complete == sheet.number && sheet.out && sheet.held, "not held back: channel", 12);
     spool_send(&spool, 0x00, NULL, 0);
-    end(STOPPED, SAYS_NO_CHANNEL_12 SHEET_7 "00: refusal 1", "not reported: channel", 12);
+    end(STOPPED, 1, SAYS_NO_CHANNEL_12 SHEET_7 "00: refusal 1", "not reported: channel", 12);
 }
 
 /* A sheet that did not come out is not to be held back. */
@@ -303,7 +342,32 @@ static void check_not_out(void)
     spool.sheet = &sheet;
     spool_send(&spool, TRESTLEPIP_WRITE_NO_SPACE, no_letter, sizeof no_letter);
     spool_send(&spool, 0x00, NULL, 0);
-    end(STOPPED, "is not listed\n" SAYS_NONE_OUT, "said to be out: sheet", 7);
+    end(STOPPED, 0, "is not listed\n" SAYS_NONE_OUT, "said to be out: sheet", 7);
+}
+
+/* Two sheets move every counter by two, from FFFF to 0000 too, and are two pages wherever the counters stood. */
+static void check_pages(unsigned channel, unsigned others)
+{
+    unsigned after = (others + 2) % 65536;
+    begin(FORM);
+    set_counters(channel, others);
+    print_sheet();
+    print_sheet();
+    check(trestlepip_channel_page(spool.state) == (channel + 2) % 65536, "not released: pages after", channel);
+    check(trestlepip_transfer_page(spool.state) == after, "not transferred: pages after", others);
+    check(trestlepip_fuser_page(spool.state) == after, "not fused: pages after", others);
+    check(trestlepip_stacker_page(spool.state) == after, "not stacked: pages after", others);
+    end_with(ALL_GOOD, 2, "", "reported, though good, after", channel);
+}
+
+/* What a damaged printer counts is not asked: the sheet that came out before is still counted. */
+static void check_damaged(void)
+{
+    begin(FORM);
+    print_sheet();
+    set_counters(0, 1000);
+    print_sheet();
+    end(STOPPED, 1, SHEET_7 "01: refusal 9", "not reported: counters", 1000);
 }
 
 /* realloc that gives memory so many times more. */
@@ -367,8 +431,9 @@ int main(int argc, char **argv)
         fprintf(stderr, "usage: test_refusals NUMBERS\n");
         return 2;
     }
-    for (unsigned number = 1; number <= LISTED_NUMBERS; number++)
-        check_number(page, number);
+    for (unsigned number = 1; number <= LAST_NUMBER; number++)
+        if (number != TRESTLEPIP_TWO_PAGES)
+            check_number(page, number);
     for (unsigned cause = 1; cause <= LISTED_CAUSES; cause++)
         check_cause(page, cause);
     for (size_t i = 0; i < sizeof checks / sizeof *checks; i++)
@@ -378,10 +443,14 @@ int main(int argc, char **argv)
     check_no_channel_12();
     check_not_out();
     check_good_line();
+    check_pages(0, 0);
+    check_pages(0xFFFF, 0xFFFF);
+    check_pages(3, 0xFFFE);
+    check_damaged();
     check_memory();
     check_text();
     fclose(page);
-    printf("refusals: %u numbers, %u causes and %zu checks provoked, %u faults\n", (unsigned)LISTED_NUMBERS, (unsigned)LISTED_CAUSES,
+    printf("refusals: %u numbers, %u causes and %zu checks provoked, %u faults\n", (unsigned)LAST_NUMBER - 1, (unsigned)LISTED_CAUSES,
         sizeof checks / sizeof *checks + sizeof unprintables / sizeof *unprintables + 1, failures);
     return failures == 0 ? 0 : 1;
 }
