@@ -29,6 +29,35 @@ uint64_t printer_send(struct printer *p, uint8_t command, const uint8_t *record,
     return trestlepip_command(command, record, length, NULL, 0, STORES(p));
 }
 
+void printer_complete(struct printer *p)
+{
+    printer_send(p, TRESTLEPIP_SPACE_1, NULL, 0);
+    printer_send(p, TRESTLEPIP_CLEAR, NULL, 0);
+}
+
+void printer_release(struct printer *p)
+{
+    bool counted = trestlepip_number(trestlepip_release(STORES(p))) == TRESTLEPIP_ACCEPTED
+        && trestlepip_number(trestlepip_transferred(STORES(p))) == TRESTLEPIP_ACCEPTED
+        && trestlepip_number(trestlepip_fused(STORES(p))) == TRESTLEPIP_ACCEPTED
+        && trestlepip_number(trestlepip_stacked(STORES(p))) == TRESTLEPIP_ACCEPTED;
+    check(counted, "not released and stacked: the page after", trestlepip_stacker_page(p->state));
+}
+
+static void set_counter(uint8_t *bytes, unsigned counter)
+{
+    bytes[0] = (uint8_t)(counter / 256);
+    bytes[1] = (uint8_t)(counter % 256);
+}
+
+void printer_set_counters(struct printer *p, unsigned channel, unsigned transfer, unsigned fuser, unsigned stacker)
+{
+    set_counter(p->state + TRESTLEPIP_AT_CHANNEL_PAGE, channel);
+    set_counter(p->state + TRESTLEPIP_AT_TRANSFER_PAGE, transfer);
+    set_counter(p->state + TRESTLEPIP_AT_FUSER_PAGE, fuser);
+    set_counter(p->state + TRESTLEPIP_AT_STACKER_PAGE, stacker);
+}
+
 void printer_sense(struct printer *p, uint8_t *sense)
 {
     uint64_t answer = trestlepip_command(TRESTLEPIP_SENSE, NULL, 0, sense, TRESTLEPIP_SENSE_BYTES, STORES(p));

@@ -21,6 +21,15 @@ void printer_start(struct printer *p, uint32_t form);
 
 uint64_t printer_send(struct printer *p, uint8_t command, const uint8_t *record, size_t length);
 
+/* Completes a page; one that is not started gets a blank line. */
+void printer_complete(struct printer *p);
+
+/* Releases the page that waits, and reports it past each station as a host does: without that no page is released after TRESTLEPIP_MOST_PAGES. */
+void printer_release(struct printer *p);
+
+/* Sets the page counters, each modulo 65,536. */
+void printer_set_counters(struct printer *p, unsigned channel, unsigned transfer, unsigned fuser, unsigned stacker);
+
 /* Reads the sense, TRESTLEPIP_SENSE_BYTES. */
 void printer_sense(struct printer *p, uint8_t *sense);
 

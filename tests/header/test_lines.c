@@ -47,10 +47,9 @@ static void compare_lines(struct printer *p, const unsigned *spacing, unsigned h
     uint8_t fcb[TRESTLEPIP_FCB_MOST];
     size_t count = put_fcb(spacing, half_inches, fcb);
     bool loaded = trestlepip_number(printer_send(p, TRESTLEPIP_LOAD_FCB, fcb, count)) == TRESTLEPIP_ACCEPTED;
-    printer_send(p, TRESTLEPIP_SPACE_1, NULL, 0);
-    printer_send(p, TRESTLEPIP_CLEAR, NULL, 0);
+    printer_complete(p);
     check(loaded && needs_lines(p, trestlepip_printable_lines(p->state)), "other lines than the library's, FCB", tried.fcbs);
-    trestlepip_release(STORES(p));
+    printer_release(p);
     tried.fcbs++;
 }
 
@@ -156,7 +155,10 @@ static void load_densest_fcb(struct printer *p)
     printer_send(p, TRESTLEPIP_LOAD_FCB, fcb, sizeof fcb);
 }
 
-/* States that the library takes, each made from the one before as far as it goes; the last is on the longest form. */
+/*
+ * States that the library takes, each made from the one before as far as it goes; the last is on the longest form, with as many pages between channel
+ * and stacker as there may be.
+ */
 enum good_states { FRESH, MIXED_FCB, LONG_SEQUENCE, STARTED, WAITING, RESET_DUE, DENSEST, GOOD_STATES };
 
 static void make_good(struct printer *p, enum good_states which)
@@ -175,6 +177,10 @@ static void make_good(struct printer *p, enum good_states which)
         printer_send(p, TRESTLEPIP_CLEAR, NULL, 0);
     if (which == RESET_DUE)
         printer_send(p, TRESTLEPIP_INITIALIZE, NULL, 0);
+    if (which >= STARTED)
+        printer_set_counters(p, 0x0203, 0x0102, 0x00FF, 0xFFFE);
+    if (which == DENSEST)
+        printer_set_counters(p, 0xFFFE + TRESTLEPIP_MOST_PAGES, 0x0102, 0x00FF, 0xFFFE);
 }
 
 static void damage(struct printer *p, enum good_states which)
@@ -252,6 +258,32 @@ static void make_up_states(struct printer *p)
     }
 }
 
+/* How far a counter is ahead of the stacker's: not at all, a little, as far as may be, farther; the last two are behind it. */
+static const unsigned distances[] = {0, 1, 2, 255, 256, TRESTLEPIP_MOST_PAGES - 1, TRESTLEPIP_MOST_PAGES, TRESTLEPIP_MOST_PAGES + 1, 0xFFFE, 0xFFFF};
+
+enum { DISTANCES = sizeof distances / sizeof *distances, TRIPLES = DISTANCES * DISTANCES * DISTANCES };
+
+/* Channel, transfer and fuser at each three such distances. */
+static void compare_counters(struct printer *p, unsigned stacker)
+{
+    for (unsigned i = 0; i < TRIPLES; i++) {
+        unsigned channel = distances[i % DISTANCES], transfer = distances[i / DISTANCES % DISTANCES], fuser = distances[i / DISTANCES / DISTANCES];
+        printer_set_counters(p, stacker + channel, stacker + transfer, stacker + fuser, stacker);
+        compare_state(p, TRESTLEPIP_AT_CHANNEL_PAGE);
+    }
+}
+
+/* From stackers at both ends, in the middle, and anywhere. */
+static void make_up_counters(struct printer *p)
+{
+    static const unsigned stackers[] = {0, 1, 0x00FF, 0x7FFF, 0x8000, 0x8001, 0xFFFE, 0xFFFF};
+    printer_start(p, 84);
+    for (size_t i = 0; i < sizeof stackers / sizeof *stackers; i++) {
+        compare_counters(p, stackers[i]);
+        compare_counters(p, chance(65536));
+    }
+}
+
 int main(void)
 {
     static struct printer p;
@@ -260,6 +292,7 @@ int main(void)
     for (enum good_states which = FRESH; which < GOOD_STATES; which++)
         damage(&p, which);
     make_up_states(&p);
+    make_up_counters(&p);
     printf("lines: %u FCBs on %u forms, %u states of which %u are good, %u faults\n", tried.fcbs, (unsigned)(sizeof forms / sizeof *forms),
             tried.states, tried.good, faults());
     return faults() == 0 ? 0 : 1;

@@ -1,6 +1,6 @@
 /*
- * The names of the header that crates/tables/stdout does not have, held to the library: the bits of status and sense, the locations, and the counts in
- * the state. tools/tables asks that each of them stands here. The texts of trestlepip_text.h: one for each number, cause and data check.
+ * The names of the header that crates/tables/stdout does not have, held to the library: the bits of status and sense, the locations, the counts in the
+ * state, and the most pages between two counters. tools/tables asks that each of them stands here. The texts of trestlepip_text.h: one for each number, cause and data check.
  */
 #include "printer.h"
 #include "trestlepip_text.h"
@@ -151,7 +151,7 @@ static void check_merge(struct printer *p, uint8_t old, uint8_t new)
     check(p->page[0] == merged(old, new), "merged otherwise", old * 256u + new);
     check(unit_check == collides(old, new), "checked otherwise", old * 256u + new);
     printer_send(p, TRESTLEPIP_CLEAR, NULL, 0);
-    trestlepip_release(STORES(p));
+    printer_release(p);
 }
 
 /* Every code over every code; FF is none. */
@@ -172,7 +172,7 @@ static void check_code(struct printer *p, uint8_t code, unsigned absent)
     check(unprintable == (code == 0xFF || trestlepip_module(code) == absent), "the module of code", code);
     check(trestlepip_module(code) * 64 + trestlepip_location(code) == code, "module and location of code", code);
     printer_send(p, TRESTLEPIP_CLEAR, NULL, 0);
-    trestlepip_release(STORES(p));
+    printer_release(p);
 }
 
 /* With one module after the other absent; module 0 cannot be. */
@@ -226,6 +226,25 @@ static void check_mosts(struct printer *p)
     check_kept(p, TRESTLEPIP_LOAD_OVERLAY_SEQUENCE, sequence, TRESTLEPIP_SEQUENCE_MOST, TRESTLEPIP_AT_SEQUENCE, TRESTLEPIP_AT_SEQUENCE_COUNT);
 }
 
+/* What a Release gets with so many pages between channel and stacker. */
+static void check_pages(struct printer *p, unsigned pages, unsigned stacker, unsigned number)
+{
+    printer_start(p, FORM);
+    printer_complete(p);
+    printer_set_counters(p, stacker + pages, stacker, stacker, stacker);
+    check(trestlepip_number(trestlepip_release(STORES(p))) == number, "another number with so many pages between", pages);
+}
+
+/* The last page that may be released makes them TRESTLEPIP_MOST_PAGES, and no calls lead to more; FFFF goes on to 0000. */
+static void check_most_pages(struct printer *p)
+{
+    for (unsigned stacker = 0; stacker <= 0xFFFF; stacker += 0x3333) {
+        check_pages(p, TRESTLEPIP_MOST_PAGES - 1, stacker, TRESTLEPIP_ACCEPTED);
+        check_pages(p, TRESTLEPIP_MOST_PAGES, stacker, TRESTLEPIP_MOST_BETWEEN);
+        check_pages(p, TRESTLEPIP_MOST_PAGES + 1, stacker, TRESTLEPIP_BAD_STORE);
+    }
+}
+
 /* The state ends after its last field: one byte less or more is no state. */
 static void check_end(struct printer *p)
 {
@@ -276,10 +295,10 @@ static void check_texts(const char *(*text)(unsigned), const unsigned *numbers, 
 
 static void check_all_texts(void)
 {
-    static const unsigned numbers[] = {0, 1, 2, 3, 4, 5, 6, 7, 8, 9, 10, 11};
+    static const unsigned numbers[] = {0, 1, 2, 3, 4, 5, 6, 7, 8, 9, 10, 11, 12, 13};
     static const unsigned checks[] = {
         TRESTLEPIP_SENSE_1_UNPRINTABLE, TRESTLEPIP_SENSE_1_NO_TABLE, TRESTLEPIP_SENSE_1_NO_MATCH, TRESTLEPIP_SENSE_1_MULTIPLE};
-    check_texts(trestlepip_number_text, numbers, TRESTLEPIP_TWO_PAGES + 1);
+    check_texts(trestlepip_number_text, numbers, TRESTLEPIP_MOST_BETWEEN + 1);
     check_texts(trestlepip_cause_text, numbers + 1, TRESTLEPIP_SEGMENT_FIELDS);
     check_texts(trestlepip_data_check_text, checks, sizeof checks / sizeof *checks);
 }
@@ -294,9 +313,10 @@ int main(void)
     check_modules(&p);
     check_slots(&p);
     check_mosts(&p);
+    check_most_pages(&p);
     check_end(&p);
     check_skips(&p);
     check_all_texts();
-    printf("names: %u rows of status and sense, merging, modules, slots, skips and texts, %u faults\n", (unsigned)ROWS, faults());
+    printf("names: %u rows of status and sense, merging, modules, slots, skips, most pages and texts, %u faults\n", (unsigned)ROWS, faults());
     return faults() == 0 ? 0 : 1;
 }

@@ -69,10 +69,8 @@ static struct printer *with_page(void)
 {
     static struct printer p;
     p = session.printer;
-    if (!p.state[TRESTLEPIP_AT_WAITING]) {
-        printer_send(&p, TRESTLEPIP_SPACE_1, NULL, 0);
-        printer_send(&p, TRESTLEPIP_CLEAR, NULL, 0);
-    }
+    if (!p.state[TRESTLEPIP_AT_WAITING])
+        printer_complete(&p);
     return &p;
 }
 
