@@ -44,6 +44,12 @@ static void damage(struct side *s, enum damage kind)
         s->state[s->program->selected_at] = 4;
     if (kind == LAST_LEGEND_BYTE)
         s->legends[TRESTLEPIP_LEGEND_BYTES - 1] = 1;
+    if (kind == BAD_STACKER)
+        s->state[s->program->counters_at + COUNTER_BYTES - 1] = 1;
+    if (kind == MOST_RELEASED) {
+        s->state[s->program->counters_at] = TRESTLEPIP_MOST_PAGES / 256;
+        s->state[s->program->counters_at + 1] = TRESTLEPIP_MOST_PAGES % 256;
+    }
 }
 
 /* A printer as the work begins with it. */

@@ -1,4 +1,4 @@
-/* The four calls: numbers in their order, commands, movement, copies. */
+/* The calls: numbers in their order, commands, movement, copies, page counters. */
 #include "plain.h"
 
 #include "plain_line.h"
@@ -361,7 +361,7 @@ uint64_t plain_compose(uint32_t copy,
     return (uint64_t)(p->marks >> pair_of(p, copy) & 1) << 17 | (uint64_t)number << 32;
 }
 
-/* Numbers: 9, 6. */
+/* Numbers: 9, 6, 13. */
 uint64_t plain_release(
         uint8_t *state, size_t state_len, uint8_t *page, size_t page_len,
         uint8_t *legends, size_t legends_len, uint8_t *tables, size_t tables_len)
@@ -371,6 +371,9 @@ uint64_t plain_release(
     struct printer *p = (struct printer *)state;
     if ((p->flags & WAITING) == 0)
         return answer(TRESTLEPIP_NO_PAGE, 0);
+    if (pages_left(p, CHANNEL_PAGE) == MOST_PAGES)
+        return answer(TRESTLEPIP_MOST_BETWEEN, 0);
+    put_pages(p, CHANNEL_PAGE, (uint16_t)(pages_at(p, CHANNEL_PAGE) + 1));
     memset(page, 0, PAGE_BYTES);
     bool due = (p->flags & DUE) != 0;
     p->flags &= (uint8_t)~(WAITING | DUE);
@@ -378,3 +381,60 @@ uint64_t plain_release(
         reset(p, legends, tables);
     return answer(TRESTLEPIP_ACCEPTED, 0);
 }
+
+/* T-02: a page passed a station. Numbers: 12 where its counter equals the one before it. */
+static inline uint64_t pass(struct printer *p, enum counter station)
+{
+    uint16_t pages = pages_at(p, station);
+    if (pages == pages_at(p, station - 1))
+        return answer(TRESTLEPIP_NONE_BETWEEN, 0);
+    put_pages(p, station, (uint16_t)(pages + 1));
+    return answer(TRESTLEPIP_ACCEPTED, 0);
+}
+
+static inline uint64_t transferred(struct printer *p)
+{
+    return pass(p, TRANSFER_PAGE);
+}
+
+static inline uint64_t fused(struct printer *p)
+{
+    return pass(p, FUSER_PAGE);
+}
+
+static inline uint64_t stacked(struct printer *p)
+{
+    return pass(p, STACKER_PAGE);
+}
+
+static inline uint64_t cancel(struct printer *p)
+{
+    put_pages(p, CHANNEL_PAGE, pages_at(p, TRANSFER_PAGE));
+    return answer(TRESTLEPIP_ACCEPTED, 0);
+}
+
+static inline uint64_t restart(struct printer *p)
+{
+    for (enum counter counter = CHANNEL_PAGE; counter < STACKER_PAGE; counter++)
+        put_pages(p, counter, pages_at(p, STACKER_PAGE));
+    return answer(TRESTLEPIP_ACCEPTED, 0);
+}
+
+/* Numbers: 9, then what the call can get. */
+#define TALLY(name) \
+    uint64_t plain_##name( \
+            uint8_t *state, size_t state_len, const uint8_t *page, size_t page_len, \
+            const uint8_t *legends, size_t legends_len, const uint8_t *tables, size_t tables_len) \
+    { \
+        (void)page; \
+        (void)tables; \
+        if (checked(state, state_len, page_len, legends, legends_len, tables_len) == 0) \
+            return answer(TRESTLEPIP_BAD_STORE, 0); \
+        return name((struct printer *)state); \
+    }
+
+TALLY(transferred)
+TALLY(fused)
+TALLY(stacked)
+TALLY(cancel)
+TALLY(restart)

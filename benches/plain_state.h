@@ -18,6 +18,7 @@ enum {
     PAIRS = 8,
     SENSE_KEPT = 5,
     HALF_INCH = 12,
+    MOST_PAGES = TRESTLEPIP_MOST_PAGES,
     HALVES = 32,    /* half inches: 24 at most, rounded up to whole vectors */
     CHANNELS = 144, /* printable lines: 132 at most, likewise */
     SEGMENT_HEAD = 6
@@ -25,6 +26,9 @@ enum {
 
 /* The bits of `flags`; that of slot n is LOADED_0 << n. */
 enum { WRITTEN = 0x01, WAITING = 0x02, DUE = 0x04, BLOCKED = 0x08, LOADED_0 = 0x10 };
+
+/* T-02: the page counters, in the order of the paper's way. */
+enum counter { CHANNEL_PAGE, TRANSFER_PAGE, FUSER_PAGE, STACKER_PAGE, COUNTERS };
 
 /*
  * Bytes alone, so that a lent buffer of any alignment can be read as one. Forms control is kept as its load understood it: how many lines each
@@ -43,10 +47,12 @@ struct printer {
     uint8_t spacing[HALVES];    /* lines in each half inch, 00 after the form */
     uint8_t channel[CHANNELS];  /* of each printable line, 00 after the last */
     uint8_t sense[SENSE_KEPT];  /* bytes 0, 1, 2, 22, 23 */
+    uint8_t counters[2 * COUNTERS]; /* high bytes first */
 };
 
 _Static_assert(sizeof(struct printer) == PLAIN_STATE_BYTES, "the state has no padding");
 _Static_assert(offsetof(struct printer, selected) == PLAIN_STATE_SELECTED, "the selected slot is where plain.h says");
+_Static_assert(offsetof(struct printer, counters) == PLAIN_STATE_COUNTERS, "so are the page counters");
 
 /* Form and forms control: the listed lengths, a bit for each number of half inches. */
 static inline bool halves_listed(unsigned halves)
@@ -116,6 +122,30 @@ static inline bool flags_bad(unsigned flags)
     return (flags & LOADED_0) == 0 || (flags & (DUE | WAITING)) == DUE || (flags & (WRITTEN | WAITING)) == (WRITTEN | WAITING);
 }
 
+static inline uint16_t pages_at(const struct printer *p, enum counter counter)
+{
+    return (uint16_t)(p->counters[2 * counter] << 8 | p->counters[2 * counter + 1]);
+}
+
+static inline void put_pages(struct printer *p, enum counter counter, uint16_t pages)
+{
+    p->counters[2 * counter] = (uint8_t)(pages >> 8);
+    p->counters[2 * counter + 1] = (uint8_t)pages;
+}
+
+/* The pages between a counter and the stacker's, which goes on from FFFF to 0000 as the others do. */
+static inline uint16_t pages_left(const struct printer *p, enum counter counter)
+{
+    return (uint16_t)(pages_at(p, counter) - pages_at(p, STACKER_PAGE));
+}
+
+/* No counter is ahead of the one before it, and the channel's is ahead of the stacker's by MOST_PAGES at most. */
+static inline bool counters_bad(const struct printer *p)
+{
+    uint16_t channel = pages_left(p, CHANNEL_PAGE), transfer = pages_left(p, TRANSFER_PAGE), fuser = pages_left(p, FUSER_PAGE);
+    return fuser > transfer || transfer > channel || channel > MOST_PAGES;
+}
+
 /* P, or 0 where the state is one that no printer has. */
 static inline unsigned lines_of(const struct printer *p)
 {
@@ -123,7 +153,7 @@ static inline unsigned lines_of(const struct printer *p)
         return 0;
     unsigned lines = printable(p);
     bool singles = (p->pitches & 3) == 0 || p->selected > 3 || p->reference == 0 || p->line == 0 || p->line > lines;
-    return singles || flags_bad(p->flags) || pairs_bad(p) || channels_bad(p->channel, lines) ? 0 : lines;
+    return singles || flags_bad(p->flags) || pairs_bad(p) || counters_bad(p) || channels_bad(p->channel, lines) ? 0 : lines;
 }
 
 /* Bytes read as words and tested once in 256, with no branch between: the loop over one block is a row of vector operations. */

@@ -5,8 +5,8 @@
 
 #include <string.h>
 
-const struct program library = { "the library", TRESTLEPIP_STATE_BYTES, TRESTLEPIP_AT_SELECTED, EXPORTS(trestlepip) };
-const struct program plain = { "plain C", PLAIN_STATE_BYTES, PLAIN_STATE_SELECTED, EXPORTS(plain) };
+const struct program library = { "the library", TRESTLEPIP_STATE_BYTES, TRESTLEPIP_AT_SELECTED, TRESTLEPIP_AT_CHANNEL_PAGE, EXPORTS(trestlepip) };
+const struct program plain = { "plain C", PLAIN_STATE_BYTES, PLAIN_STATE_SELECTED, PLAIN_STATE_COUNTERS, EXPORTS(plain) };
 
 /* Bytes that no call writes are to keep this value. */
 enum { UNTOUCHED = 0xA5 };
@@ -31,7 +31,12 @@ uint64_t side_call(struct side *s, const struct call *c)
     case CALL_START: return s->program->exports.start(c->number, 10, 10, 12, 15, STORES);
     case CALL_COMMAND: return s->program->exports.command((uint8_t)c->number, c->record, c->record_len, s->reply, TRESTLEPIP_SENSE_BYTES, STORES);
     case CALL_COMPOSE: return s->program->exports.compose(c->number, s->out, TRESTLEPIP_PAGE_BYTES, STORES);
-    default: return s->program->exports.release(STORES);
+    case CALL_RELEASE: return s->program->exports.release(STORES);
+    case CALL_TRANSFERRED: return s->program->exports.transferred(STORES);
+    case CALL_FUSED: return s->program->exports.fused(STORES);
+    case CALL_STACKED: return s->program->exports.stacked(STORES);
+    case CALL_CANCEL: return s->program->exports.cancel(STORES);
+    default: return s->program->exports.restart(STORES);
     }
 }
 
@@ -56,6 +61,8 @@ const char *sides_differ(struct side *a, struct side *b, size_t answers)
     const struct call sense = { CALL_COMMAND, 0x04, NULL, 0 };
     if (memcmp(a->answers, b->answers, answers * sizeof *a->answers) != 0)
         return "an answer";
+    if (memcmp(a->state + a->program->counters_at, b->state + b->program->counters_at, COUNTER_BYTES) != 0)
+        return "the page counters";
     if (memcmp(a->page, b->page, sizeof a->page) != 0)
         return "the page";
     if (memcmp(a->legends, b->legends, sizeof a->legends) != 0)

@@ -9,9 +9,12 @@
 #include <stddef.h>
 #include <stdint.h>
 
+enum { COUNTER_BYTES = TRESTLEPIP_AFTER_ALL - TRESTLEPIP_AT_CHANNEL_PAGE };
 enum { STATE_ROOM = 256, OUT_ROOM = TRESTLEPIP_PAGE_BYTES + 64, REPLY_ROOM = TRESTLEPIP_SENSE_BYTES + 8, CALLS_MOST = 160 };
 
-enum call_kind { CALL_START, CALL_COMMAND, CALL_COMPOSE, CALL_RELEASE };
+enum call_kind {
+    CALL_START, CALL_COMMAND, CALL_COMPOSE, CALL_RELEASE, CALL_TRANSFERRED, CALL_FUSED, CALL_STACKED, CALL_CANCEL, CALL_RESTART
+};
 
 /* One call: `number` is the form length of Start, the byte of Command, the index of Compose. The record is Command's. */
 struct call {
@@ -21,11 +24,12 @@ struct call {
     size_t record_len;
 };
 
-/* The calls of one program, and two facts about its state. */
+/* The calls of one program, and three facts about its state. */
 struct program {
     const char *name;
     size_t state_bytes;
     size_t selected_at; /* the place of the selected slot */
+    size_t counters_at; /* that of the page counters, which both programs keep alike */
     struct exports exports;
 };
 

@@ -50,6 +50,22 @@ static void ready_lines(struct work *w, unsigned lines, const uint8_t *text)
         ready(w, CALL_COMMAND, 0x09, text, LINE_MOST);
 }
 
+/* So many lines, and the page is complete. */
+static void ready_page(struct work *w, unsigned lines, const uint8_t *text)
+{
+    ready_lines(w, lines, text);
+    ready(w, CALL_COMMAND, 0x87, NULL, 0);
+}
+
+/* Pages that have passed no station yet. */
+static void ready_released(struct work *w, unsigned pages, const uint8_t *text)
+{
+    for (unsigned i = 0; i < pages; i++) {
+        ready_page(w, 1, text);
+        ready(w, CALL_RELEASE, 0, NULL, 0);
+    }
+}
+
 /* The same call over and over, each of them a part. */
 static void measure_often(struct work *w, unsigned times, enum call_kind kind, uint32_t number, const uint8_t *record, size_t record_len)
 {
@@ -179,16 +195,41 @@ static void make_page(struct making *m)
     w->parts = 1;
 }
 
+static void make_reports(struct making *m)
+{
+    struct work *w = next_work(m);
+    snprintf(w->name, sizeof w->name, "page reported: transferred, fused, stacked");
+    ready_form(w, FORM, 6);
+    w->parts = 40;
+    ready_released(w, w->parts, m->text);
+    for (unsigned i = 0; i < w->parts; i++) {
+        measure(w, CALL_TRANSFERRED, 0, NULL, 0);
+        measure(w, CALL_FUSED, 0, NULL, 0);
+        measure(w, CALL_STACKED, 0, NULL, 0);
+    }
+}
+
+/* A cancel or a restart; there is a page before each station. */
+static void make_giving_up(struct making *m, const char *name, enum call_kind kind)
+{
+    struct work *w = next_work(m);
+    snprintf(w->name, sizeof w->name, "%s", name);
+    ready_form(w, FORM, 6);
+    ready_released(w, 3, m->text);
+    ready(w, CALL_TRANSFERRED, 0, NULL, 0);
+    ready(w, CALL_TRANSFERRED, 0, NULL, 0);
+    ready(w, CALL_FUSED, 0, NULL, 0);
+    measure_often(w, 100, kind, 0, NULL, 0);
+}
+
 /* A refusal on a printer with no legends, on a page that waits or is empty. */
 static struct work *make_refusal(struct making *m, unsigned number, const char *how, bool waiting, struct call c)
 {
     struct work *w = next_work(m);
     snprintf(w->name, sizeof w->name, "refusal %u: %s", number, how);
     ready_form(w, FORM, 6);
-    if (waiting) {
-        ready_lines(w, 1, m->text);
-        ready(w, CALL_COMMAND, 0x87, NULL, 0);
-    }
+    if (waiting)
+        ready_page(w, 1, m->text);
     w->number = number;
     measure_often(w, 100, c.kind, c.number, c.record, c.record_len);
     return w;
@@ -196,15 +237,18 @@ static struct work *make_refusal(struct making *m, unsigned number, const char *
 
 static void make_refusals(struct making *m)
 {
-    const struct call write = { CALL_COMMAND, 0x09, m->text, 132 };
+    const struct call write = { CALL_COMMAND, 0x09, m->text, 132 }, release = { CALL_RELEASE, 0, NULL, 0 };
     make_refusal(m, 1, "byte FF", false, (struct call){ CALL_COMMAND, 0xFF, NULL, 0 });
     make_refusal(m, 2, "write of 0 bytes", false, (struct call){ CALL_COMMAND, 0x09, NULL, 0 });
     make_refusal(m, 4, "write while a page waits", true, write);
-    make_refusal(m, 6, "release with no page waiting", false, (struct call){ CALL_RELEASE, 0, NULL, 0 });
+    make_refusal(m, 6, "release with no page waiting", false, release);
     make_refusal(m, 7, "copy 2 of one", true, (struct call){ CALL_COMPOSE, 2, NULL, 0 });
     make_refusal(m, 9, "page of a wrong size", false, write)->damage = SHORT_PAGE;
     make_refusal(m, 9, "selected slot 4", false, write)->damage = BAD_SELECTION;
     make_refusal(m, 9, "last byte of the legends set", false, write)->damage = LAST_LEGEND_BYTE;
+    make_refusal(m, 9, "stacker ahead of the fuser", false, write)->damage = BAD_STACKER;
+    make_refusal(m, 12, "transferred with no page released", false, (struct call){ CALL_TRANSFERRED, 0, NULL, 0 });
+    make_refusal(m, 13, "release with the most pages between", true, release)->damage = MOST_RELEASED;
 }
 
 /* Four segments at 6 lines per inch have a limit: page, copy and legends together stay in the first cache there, as those of memcpy do. */
@@ -214,8 +258,7 @@ static void make_compose(struct making *m, unsigned segments, uint8_t lines, uns
     snprintf(w->name, sizeof w->name, "compose, %u segments on %s, %u lines per inch", segments, lines == 1 ? "a line each" : "every line", lpi);
     ready_form(w, FORM, lpi);
     ready_segments(w, segments, lines);
-    ready_lines(w, printable(lpi) - 1, m->text);
-    ready(w, CALL_COMMAND, 0x87, NULL, 0);
+    ready_page(w, printable(lpi) - 1, m->text);
     measure_often(w, 20, CALL_COMPOSE, 1, NULL, 0);
     w->copied = (size_t)printable(lpi) * LINE_MOST;
     w->limited = segments == 4 && lpi == 6;
@@ -261,6 +304,9 @@ size_t works_make(struct work *works)
     make_pair(&m, 132);
     make_pair(&m, 204);
     make_page(&m);
+    make_reports(&m);
+    make_giving_up(&m, "cancel", CALL_CANCEL);
+    make_giving_up(&m, "restart", CALL_RESTART);
     make_refusals(&m);
     make_compose(&m, 0, 1, 6);
     make_compose(&m, 4, 1, 6);
