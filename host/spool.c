@@ -110,8 +110,7 @@ void spool_pass_stations(struct spool *spool)
         begin_call(spool, stations[i].call);
         stop_if_refused(spool, stations[i].passed(STORES(spool)));
     }
-    if (!spool->stopped)
-        spool->pages += trestlepip_pages_between(trestlepip_stacker_page(spool->state), before);
+    spool->pages += trestlepip_pages_between(trestlepip_stacker_page(spool->state), before);
 }
 
 /* A page is released only when all its copies are out; one that stopped between them is to be held back. */
