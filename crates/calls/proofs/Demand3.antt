@@ -41,8 +41,9 @@ compose-alike v w n out e = buffer-alike v w (compose n out) (λ l. l) e refl
 pub record Alike (v w : World) (xs ys : List Call) : Type 0 where
   -- what counts got equal answers, and each page that one of them completed has equal copies under equal numbers and marks
   pub gave : sinceReset v xs .gave ≡ sinceReset w ys .gave
-  -- the printers differ in their sense at most
+  -- the printers differ in their sense at most, so that the four page counters are equal too (T-02)
   pub core : worldAfter v xs .core ≡ worldAfter w ys .core
+  pub counters : worldAfter v xs .core .state .counters ≡ worldAfter w ys .core .state .counters
   -- whatever calls follow, alike on both, they get equal answers, and each page that they complete has equal copies, numbers and marks
   pub later : (zs : List Call) → gives (worldAfter v xs .core) zs ≡ gives (worldAfter w ys .core) zs
   -- and a Compose after them writes the same bytes
@@ -58,6 +59,7 @@ alike f v w xs ys ev ew p q =
     record {
       gave = rw (tv .gave, tw .gave, p, q);
       core = e;
+      counters = ap (λ (k : Core). k .state .counters) e;
       later = λ zs. ap (λ (k : Core). gives k zs) e;
       composes = λ zs n out. compose-alike _ _ n out (after-alike _ _ zs e);
     }

@@ -19,9 +19,9 @@ use Rattle.calls.proofs.Demand3.{after-alike, Alike, demand-3}
 use Rattle.state.specs.State.{bytesOf}
 use Rattle.state.specs.Packed.{packed}
 use Rattle.state.specs.Host.{Called, Held, heldOf, callOn, bytesAfter, heldIn, shown, startBytes}
-use Rattle.trestlepip.specs.Host.{numberIn, butSense}
+use Rattle.trestlepip.specs.Host.{numberIn, countersIn, butSense}
 use Rattle.trestlepip.specs.Notes.{Noted, deedsIn, notes}
-use Rattle.trestlepip.proofs.Steps.{list-steps, call-after}
+use Rattle.trestlepip.proofs.Steps.{counters-held, list-steps, call-after}
 use Rattle.trestlepip.proofs.Starts.{start-taken, start-leaves, start-sized}
 use Rattle.trestlepip.proofs.Notes.{answersIn, packedIn, Ends, Told, none, next, notes-agree}
 
@@ -34,6 +34,8 @@ pub record HeldAlike (a b : Held) : Type 0 where
   -- and all that is held is equal except for the sense
   pub states : (zs : List Call) → butSense (bytesAfter a zs) ≡ butSense (bytesAfter b zs)
   pub stores : (zs : List Call) → bytesAfter a zs .stores ≡ bytesAfter b zs .stores
+  -- so that the four page counters are equal too (T-02)
+  pub counters : (zs : List Call) → countersIn (bytesAfter a zs) ≡ countersIn (bytesAfter b zs)
 
 -- Two noted calls. Where they completed a page, a Compose right after them shows each of its copies: the answer has its number and mark, the buffer its
 -- cells.
@@ -76,6 +78,11 @@ module _ (v w : World) (z : Sized (v .core .state)) (e : v .core ≡ w .core)
             λ zs. both-hold butSense zs
             (ap (λ (k : Core). butSense (heldIn (record { core = k; sense = noSense }))) (after-alike v w zs e));
         stores = λ zs. both-hold (λ (h : Held). h .stores) zs (ap (λ (k : Core). k .stores) (after-alike v w zs e));
+        counters =
+            λ zs. both-hold countersIn zs
+            (counters-held (worldAfter v zs) (sized-calls v zs z)
+            ∙ ap (λ (k : Core). k .state .counters) (after-alike v w zs e)
+            ∙ sym (counters-held (worldAfter w zs) (sized-calls w zs (rw (← e) z))));
       }
 
 -- An accepted Start leaves the same to every host, so that both lists are made on the same printer.

@@ -6,3 +6,4 @@ pub mod Refused
 pub mod Starts
 pub mod Notes
 pub mod Demand3
+pub mod Counting

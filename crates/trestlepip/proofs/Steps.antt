@@ -3,14 +3,21 @@ use Prim.Native.Nat.{ℕ}
 use mathlib.Core.Path.{_≡_, refl, sym, ap, _∙_}
 use mathlib.Core.Bool.{true}
 use mathlib.Core.List.{List, [], _∷_}
+use Rattle.calls.specs.declared.State.{State}
 use Rattle.calls.specs.Core.{Stores, World}
 use Rattle.calls.specs.Calls.{Call, step}
 use Rattle.calls.specs.Lists.{worldAfter}
 use Rattle.calls.specs.Premises.{Sized}
 use Rattle.calls.proofs.Invariants.{sized-call, sized-calls}
-use Rattle.state.specs.State.{worldAt, Bytes, readable}
+use Rattle.state.specs.State.{stateAt, worldAt, Bytes, readable}
 use Rattle.state.specs.Host.{Called, Held, held, heldOf, callOn, bytesAfter, heldIn, shown, callBytes}
 use Rattle.state.proofs.Round.{readable-bytes, state-back, sense-back, sized-at, back}
+use Rattle.trestlepip.specs.Host.{countersIn}
+
+-- The counters that a host reads are the printer's.
+pub counters-held : (w : World) → Sized (w .core .state) → countersIn (heldIn w) ≡ w .core .state .counters
+unfolding stateAt
+counters-held w z = ap (λ (s : State). s .counters) (state-back (w .core .state) (w .sense) z)
 
 -- One call over the bytes of a printer, and a list of them.
 pub call-steps : (w : World) (c : Call) → Sized (w .core .state) → callOn (heldIn w) c ≡ shown (step w c)

@@ -5,7 +5,10 @@ use mathlib.Core.List.{List, _++_}
 use lib.Dec.{eqb}
 use lib.ListN.{take, drop}
 use Rattle.line.specs.declared.Unprintables.{Unprintables}
-use Rattle.printer.specs.Layout.{sense0At, pairsAt}
+use Rattle.counters.specs.declared.Counters.{Counters}
+use Rattle.counters.specs.Counters.{counters}
+use Rattle.printer.specs.Layout.{sense0At, pairsAt, channelAt, transferAt, fuserAt, stackerAt}
+use Rattle.state.specs.State.{pairAt}
 use Rattle.state.specs.Host.{Held}
 use Rattle.state.specs.Packed.{field}
 
@@ -19,6 +22,10 @@ readyIn answer = eqb (field answer 16 1) 1
 -- T-01: what it tells of unprintable positions: the first, and how many.
 abbrev pub toldBy : ℕ → Unprintables
 toldBy answer = record { first = field answer 41 8; count = field answer 49 15 }
+
+-- T-02: the page counters, as the C header reads them from the state.
+abbrev pub countersIn : Held → Counters
+countersIn h = counters (pairAt (h .state) channelAt) (pairAt (h .state) transferAt) (pairAt (h .state) fuserAt) (pairAt (h .state) stackerAt)
 
 -- The state's bytes except those of the sense.
 abbrev pub butSense : Held → List ℕ
