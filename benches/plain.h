@@ -1,6 +1,6 @@
 /*
- * The printer of document 01 again, with the requests of document 02 that have landed, in plain C and written for speed: what the library's times are held against. The calls, their numbers and
- * their packed answers are those of trestlepip.h; the state's bytes are its own.
+ * The printer of document 01 again, with the requests of document 02 that have landed, in plain C and written for speed: what the library's times are
+ * held against. The calls, their numbers and their packed answers are those of trestlepip.h; the state's bytes are its own.
  */
 #ifndef PLAIN_H
 #define PLAIN_H

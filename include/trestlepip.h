@@ -56,13 +56,20 @@
  *         return fflush(stdout) == 0;
  *     }
  *
+ *     // Released, and reported past each station as soon as it is out: the counters then say how many are.
+ *     static bool release_page(void)
+ *     {
+ *         return is_good(trestlepip_release(STORES)) && is_good(trestlepip_transferred(STORES)) && is_good(trestlepip_fused(STORES))
+ *             && is_good(trestlepip_stacked(STORES));
+ *     }
+ *
  *     // Number 7 alone says that all copies are out. Then the page is released, and in no other case.
  *     static bool print_page(void)
  *     {
  *         for (uint32_t index = 1;; index++) {
  *             uint64_t answer = trestlepip_compose(index, copy, sizeof copy, STORES);
  *             if (trestlepip_number(answer) == TRESTLEPIP_BAD_INDEX)
- *                 return is_good(trestlepip_release(STORES));
+ *                 return release_page();
  *             if (!is_good(answer) || !print_copy(answer))
  *                 return false;
  *         }
@@ -321,7 +328,8 @@ uint64_t trestlepip_compose(uint32_t copy,
 
 /*
  * Release: the page that waits is done with, and counted into the channel's page counter; a reset that Initialize left due is done. Refusals, in this
- * order: 9, 6, 13. With 13 the page still waits: report sheets stacked, or restart, and release it again.
+ * order: 9, 6, 13. With 13 the page still waits: report pages stacked, or restart, and release it again. A program that reports none meets it after
+ * TRESTLEPIP_MOST_PAGES releases, unless it restarts in between.
  */
 uint64_t trestlepip_release(
         uint8_t *state, size_t state_len, uint8_t *page, size_t page_len,

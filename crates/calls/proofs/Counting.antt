@@ -8,7 +8,7 @@ use native.Mathlib.Omega.{arith}
 use mathlib.Core.Logic.{inr}
 use lib.Dec.{eqb}
 use borrow.Author.Tests.{eq-eqb}
-use Rattle.seq.specs.Words.{every, when, firstOr, listed}
+use Rattle.seq.specs.Words.{every, when, firstOr}
 use Rattle.seq.proofs.Laws.{and-left, and-right, cond-has}
 use Rattle.numbers.specs.declared.Refusal.the-variants.{Accepted, NoPage, BadStore, NoneBetween, MostBetween}
 use Rattle.numbers.specs.Numbers.{rowOf, numberOf, isAccepted}
@@ -33,7 +33,7 @@ use Rattle.calls.specs.Premises.{Good}
 use Rattle.calls.specs.Lists.{worldAfter}
 use Rattle.calls.specs.Pages.{Pages, noPages, pagesByTally, pagesBy, pagesOver}
 use Rattle.calls.proofs.Accepted.{releasable, tallyable, started-world}
-use Rattle.calls.proofs.Refused.{accepted-effect, refused-effect, not-given, refused-keeps}
+use Rattle.calls.proofs.Refused.{accepted-effect, refused-effect, not-given, release-keeps}
 use Rattle.calls.proofs.Good.{start-good}
 use Rattle.calls.proofs.Invariants.{good-call}
 
@@ -180,17 +180,10 @@ thirteen-exactly k release = go (coreOk k) (k .state .sheet .waiting) (mostBetwe
     go true true false = refl
 thirteen-exactly k (tally t) = not-given 13 k (tally t) (inr refl) refl
 
--- a refusal by either
-number-keeps : (w : World) (c : Call) {n : ℕ} → numberOf (refusalOf (w .core) c) ≡ n → eqb n 0 ≡ false → listed (1 ∷ 3 ∷ 5 ∷ []) n ≡ false → step w c .world ≡ w
-unfolding isAccepted
-number-keeps w c e some quiet = refused-keeps w c (ap (λ (n : ℕ). eqb n 0) e ∙ some) (ap (listed (1 ∷ 3 ∷ 5 ∷ [])) e ∙ quiet)
-
-pub twelve-keeps : (w : World) (c : Call) → numberOf (refusalOf (w .core) c) ≡ 12 → step w c .world ≡ w
-twelve-keeps w c e = number-keeps w c e refl refl
-
 -- Then nothing has changed: the page still waits, and its copies and the counters are as they were.
 pub thirteen-waits : (w : World) → numberOf (refusalOf (w .core) release) ≡ 13
     → (step w release .world ≡ w) × (step w release .world .core .state .sheet .waiting ≡ true)
+unfolding isAccepted
 thirteen-waits w e =
-    let same = number-keeps w release e refl refl in
+    let same = release-keeps w (ap (λ (n : ℕ). eqb n 0) e) in
     (same, ap (λ (v : World). v .core .state .sheet .waiting) same ∙ and-left _ _ (and-right (coreOk (w .core)) _ (sym (thirteen-exactly (w .core) release) ∙ eq-eqb _ _ e)))

@@ -16,6 +16,7 @@ use Rattle.form.specs.Form.{formLengths, formOk}
 use Rattle.movement.specs.declared.Moved.{Moved}
 use Rattle.movement.specs.Movement.{still, toTop}
 use Rattle.movement.proofs.MovementLaws.{one-page}
+use Rattle.counters.specs.declared.Tally.{Tally}
 use Rattle.calls.specs.declared.Command.{Command}
 use Rattle.calls.specs.declared.Command.the-variants.{Write, Move, Controls, Loads, Unlisted}
 use Rattle.calls.specs.Core.{Stores, Core, World, sizesOk, started}
@@ -132,6 +133,28 @@ unfolding step refused perform doCompose refusalOf
 compose-keeps w n out =
     by-outcome (λ (e : Effect). record { core = e .core; sense = senseAfter (w .sense) (e .sense) } ≡ w) (w .core) (compose n out) (λ a. refl)
     (λ a. rw (sense-kept 0 (refusalOf (w .core) (compose n out)) (compose-tells _ _ _ _) (never-10 (w .core) (compose n out))))
+
+-- A refused Release, report, cancel or restart leaves all as it was: their refusals do not touch the sense either.
+release-tells : (a b c : Bool) → tells (firstOr Accepted (when a BadStore ∷ when b NoPage ∷ when c MostBetween ∷ [])) ≡ false
+unfolding firstOr when rowOf
+release-tells true b c = refl
+release-tells false true c = refl
+release-tells false false true = refl
+release-tells false false false = refl
+
+pub release-keeps : (w : World) → isAccepted (refusalOf (w .core) release) ≡ false → step w release .world ≡ w
+unfolding refusalOf
+release-keeps w e = refused-keeps w release e (release-tells _ _ _)
+
+tally-tells : (a b : Bool) → tells (firstOr Accepted (when a BadStore ∷ when b NoneBetween ∷ [])) ≡ false
+unfolding firstOr when rowOf
+tally-tells true b = refl
+tally-tells false true = refl
+tally-tells false false = refl
+
+pub tally-keeps : (w : World) (t : Tally) → isAccepted (refusalOf (w .core) (tally t)) ≡ false → step w (tally t) .world ≡ w
+unfolding refusalOf
+tally-keeps w t e = refused-keeps w (tally t) e (tally-tells _ _)
 
 -- The number given is that of the first test of the order which holds, and only of that: Accepted exactly where none does.
 pub first-given : (k : Core) (c : Call) → First Accepted (testsOf k c) (refusalOf k c)

@@ -234,7 +234,7 @@ pub fn compose(
     answer::pack(copy_page(found.form, copy, out, state, page, legends, tables))
 }
 
-// The page that waits is done with.
+// The page that waits is done with. A refused Release puts nothing back: its refusals keep the sense.
 fn release_page(
     form: Layout,
     state: &mut [u8],
@@ -251,7 +251,8 @@ fn release_page(
     if refusal.is_accepted() {
         return codec::put_all(p.release(page, legends, tables), state);
     }
-    refuse(refusal, 0, state)
+    let step = p.refuse(refusal, 0);
+    step.answer
 }
 
 pub fn release(state: &mut [u8], page: &mut [u8], legends: &mut [u8], tables: &mut [u8]) -> u64
@@ -265,7 +266,7 @@ pub fn release(state: &mut [u8], page: &mut [u8], legends: &mut [u8], tables: &m
     answer::pack(release_page(found.form, state, page, legends, tables))
 }
 
-// A report, a cancel or a restart, on bytes that were judged good.
+// A report, a cancel or a restart, on bytes that were judged good. A refused one puts nothing back: its refusal keeps the sense.
 fn keep_count(which: Tally, state: &mut [u8]) -> Answer
     requires { ⌜ Readable (now state) ⌝ }
     ensures { λ r. ⌜ ((m : Stores) → coreOk (coreAt (now (state .entry)) m) ≡ true
@@ -276,7 +277,8 @@ fn keep_count(which: Tally, state: &mut [u8]) -> Answer
     if refusal.is_accepted() {
         return codec::put_counters(p.tally(which), state);
     }
-    refuse(refusal, 0, state)
+    let step = p.refuse(refusal, 0);
+    step.answer
 }
 
 pub fn tally(which: Tally, state: &mut [u8], page: &[u8], legends: &[u8], tables: &[u8]) -> u64

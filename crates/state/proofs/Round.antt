@@ -164,7 +164,10 @@ pub same-bytes : (s t : List ℕ) → Bytes s → Bytes t → readable s ≡ tru
     → senseAt s ≡ senseAt t → s ≡ t
 same-bytes s t h k d e p q = sym (back s h d) ∙ (λ i. bytesOf (p i) (q i)) ∙ back t k e
 
--- Bytes laid over a place, and what comes after them.
+-- A place of a state has as many bytes as what is laid over it; and what comes after bytes that were laid.
+pub place-long : (n a : ℕ) (s x : List ℕ) → length s ≡ stateSize → a + n ≤ stateSize → length x ≡ n → length (take n (drop a s)) ≡ length x
+place-long n a s x e h k = length-take-le n (drop a s) (simp length-drop (omega arith)) ∙ sym k
+
 pub laid : (a : ℕ) (s x : List ℕ) → a ≤ length s → drop a (take a s ++ x) ≡ x
 laid a s x h = drop-at (take a s) x a (length-take-le a s h)
 

@@ -2,13 +2,17 @@
 use mathlib.Core.Path.{_≡_, refl, sym, ap, _∙_}
 use mathlib.Core.Bool.{true}
 use mathlib.Core.List.{[]}
-use Rattle.calls.specs.Core.{Stores, Core, World, storesOf}
+use native.Mathlib.Omega.{arith}
+use Rattle.numbers.specs.Numbers.{isAccepted}
+use Rattle.calls.specs.Core.{Stores, World, storesOf}
 use Rattle.calls.specs.Contents.{coreOk}
-use Rattle.calls.specs.Calls.{tally, refusalOf, doTally, perform}
+use Rattle.calls.specs.Effects.{refused}
+use Rattle.calls.specs.Calls.{tally, refusalOf, doTally, perform, Outcome}
+use Rattle.calls.proofs.Refused.{tally-keeps}
 use Rattle.printer.specs.declared.Printer.{Printer}
 use Rattle.state.specs.State.{worldAt}
 use Rattle.state.specs.Host.{shown}
-use Rattle.serve.proofs.Put.{put-back, own-counters, tally-alone}
+use Rattle.serve.proofs.Put.{put-back, left-alone, own-counters, tally-alone}
 use Rattle.serve.proofs.Steps.{step-accepted, step-refused}
 use borrow.Author.Needs.{needs}
 use Rattle.serve.proofs.keep_count.Statement.{statement}
@@ -31,9 +35,14 @@ returns c = λ m ok. let s = c .before .before .before .before .before .before .
     ∙ ap shown (step-accepted (world s m) (tally (s .args .which)) (given (c .before .before .before .before .before .before .before) m ok) (sym (c .before .before .before .before .before .before .is-accepted .ensures) ∙ c .before .before .before .before .before .if1 .taken) refl)
 
 returns-2 : tie.Need-returns-2
-returns-2 c = λ m ok. let s = c .before .before .before .before .before .before .before .before .before .before in
-    c .before .before .refuse .ensures [] m
-    ∙ ap shown (step-refused (world s m) (tally (s .args .which)) (given (c .before .before .before .before .before .before) m ok) 0 (sym (c .before .before .before .before .before .is-accepted .ensures) ∙ c .before .before .before .before .if1 .left) refl refl)
+returns-2 c = λ m ok. let s = c .before .before .before .before .before .before .before .before in
+    let no = sym (c .before .before .before .is-accepted .ensures) ∙ c .before .before .if1 .left in
+    let x = given (c .before .before .before .before) m ok in
+    let o = step-refused (world s m) (tally (s .args .which)) x 0 no refl refl in
+    left-alone (s .args .state .now) (c .before .before .before .before .before .decode .ensures) [] m (λ k. refused k 0 (c .before .before .before .before .tally-refusal .result)) (c .before .refuse .ensures m [])
+    (λ n. omega (arith, c .before .before .before .before .before .before .before .slice-known .given n)) (s .pre .read)
+    (ap (λ (z : Outcome). z .world) o ∙ tally-keeps (world s m) (s .args .which) (ap isAccepted (sym x) ∙ no)) refl
+    ∙ ap shown o
 
 pub keep-count-spec : {M : Type 1} → statement M
 keep-count-spec =

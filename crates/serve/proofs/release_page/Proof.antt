@@ -1,17 +1,21 @@
 -- Accepted or refused, as the definition has it.
 use mathlib.Core.Path.{_≡_, refl, sym, ap, _∙_}
 use mathlib.Core.List.{[]}
+use native.Mathlib.Omega.{arith}
 use Rattle.seq.specs.Words.{firstOr}
 use Rattle.numbers.specs.declared.Refusal.the-variants.{Accepted}
+use Rattle.numbers.specs.Numbers.{isAccepted}
 use Rattle.calls.specs.declared.State.{State}
 use Rattle.calls.specs.Core.{Stores, World, storesOf}
 use Rattle.calls.specs.Contents.{coreOk}
-use Rattle.calls.specs.Calls.{release, releaseTests, refusalOf, doRelease, perform}
+use Rattle.calls.specs.Effects.{refused}
+use Rattle.calls.specs.Calls.{release, releaseTests, refusalOf, doRelease, perform, Outcome}
+use Rattle.calls.proofs.Refused.{release-keeps}
 use Rattle.printer.specs.declared.Printer.{Printer}
 use Rattle.state.specs.State.{worldAt}
 use Rattle.state.specs.Host.{shown}
 use Rattle.state.proofs.Sound.{sound-good}
-use Rattle.serve.proofs.Put.{put-back}
+use Rattle.serve.proofs.Put.{put-back, left-alone}
 use Rattle.serve.proofs.Good.{judged-good}
 use Rattle.serve.proofs.Steps.{step-accepted, step-refused}
 use borrow.Author.Needs.{needs}
@@ -48,7 +52,14 @@ returns c = let s = c .before .before .before .before .before .before .before .b
     (sym (c .before .before .before .before .before .before .before .before .before .before .before .before .before .before .before .is-accepted .ensures) ∙ c .before .before .before .before .before .before .before .before .before .before .before .before .before .before .if1 .taken) refl)
 
 returns-2 : tie.Need-returns-2
-returns-2 c = let s = c .before .before .before .before .before .before .before .before .before .before .before .before .before in c .before .before .refuse .ensures [] (stores s) ∙ ap shown (step-refused (world s) release (given (c .before .before .before .before .before .before)) 0 (sym (c .before .before .before .before .before .is-accepted .ensures) ∙ c .before .before .before .before .if1 .left) refl refl)
+returns-2 c = let s = c .before .before .before .before .before .before .before .before .before .before .before in
+    let no = sym (c .before .before .before .is-accepted .ensures) ∙ c .before .before .if1 .left in
+    let x = given (c .before .before .before .before) in
+    let o = step-refused (world s) release x 0 no refl refl in
+    left-alone (s .args .state .now) (c .before .before .before .before .before .decode .ensures) [] (stores s) (λ k. refused k 0 (c .before .before .before .before .release-refusal .result)) (c .before .refuse .ensures (stores s) [])
+    (λ n. omega (arith, c .before .before .before .before .before .before .before .before .before .before .slice-known .given n)) (s .pre .bytes .read)
+    (ap (λ (z : Outcome). z .world) o ∙ release-keeps (world s) (ap isAccepted (sym x) ∙ no)) refl
+    ∙ ap shown o
 
 pub release-page-spec : {M : Type 1} → statement M
 release-page-spec =
