@@ -15,7 +15,7 @@ use Rattle.numbers.specs.Numbers.{rowOf, numberOf, isAccepted}
 use Rattle.counters.specs.declared.Counters.{Counters}
 use Rattle.counters.specs.declared.Tally.{Tally}
 use Rattle.counters.specs.declared.Tally.the-variants.{Transferred, Fused, Stacked, Cancel, Restart}
-use Rattle.counters.specs.Counters.{between, startCounters, counted, transferred, fused, tallied, noneBetween, pagesOut, mostBetween}
+use Rattle.counters.specs.Counters.{startCounters, counted, transferred, fused, tallied, noneBetween, pagesOut, mostBetween}
 use Rattle.counters.proofs.CounterLaws.{Reachable, reachable, counted-out, stacked-out, cancelled-out, restarted-out}
 use Rattle.calls.specs.declared.Control.the-variants.{NoOp, SenseIo, Initialize, Clear, Block, Allow, Select}
 use Rattle.calls.specs.declared.Load.{Load}
@@ -32,7 +32,7 @@ use Rattle.calls.specs.Start.{Asked, startRefusal, startWorld, startOutc
 use Rattle.calls.specs.Premises.{Good}
 use Rattle.calls.specs.Lists.{worldAfter}
 use Rattle.calls.specs.Pages.{Pages, noPages, pagesByTally, pagesBy, pagesOver}
-use Rattle.calls.proofs.Accepted.{releasable, tallyable, started-world}
+use Rattle.calls.proofs.Accepted.{tallyable, started-world}
 use Rattle.calls.proofs.Refused.{accepted-effect, refused-effect, not-given, release-keeps}
 use Rattle.calls.proofs.Good.{start-good}
 use Rattle.calls.proofs.Invariants.{good-call}

@@ -2,7 +2,7 @@
 -- waiting is all 00. Each is its cases over the changes of Changes.
 use Prim.Native.Nat.{ℕ, _≤_}
 use mathlib.Core.Path.{_≡_, refl, sym, _∙_}
-use mathlib.Core.Bool.{Bool, true, false, not, _&&_, _||_, true≢false, and-true, or-true}
+use mathlib.Core.Bool.{true, false, not, _&&_, _||_, true≢false, and-true, or-true}
 use mathlib.Core.List.{List}
 use mathlib.Core.Logic.{inl, inr}
 use native.Mathlib.Omega.{arith}

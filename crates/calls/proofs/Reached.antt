@@ -1,11 +1,10 @@
 -- T-02: all counters that get no 9 can be reached: from every Start some list of calls leads to them. So 9 is not too wide; that it is not too narrow is
 -- `never-9` (Invariants).
 use Prim.Native.Nat.{ℕ, zero, suc, _+_, _%_, _^_, _≤_, _<_}
-use mathlib.Core.Path.{_≡_, refl, sym, ap, _∙_}
-use mathlib.Core.Bool.{Bool, true, false, not}
+use mathlib.Core.Path.{_≡_, refl, ap, _∙_}
+use mathlib.Core.Bool.{true, false, not}
 use mathlib.Core.List.{List, [], _∷_, _++_}
 use native.Mathlib.Omega.{arith}
-use lib.Dec.{lit≤}
 use borrow.Author.Tests.{ne-eqb, le-ltb}
 use Rattle.seq.proofs.Laws.{clear, pass}
 use Rattle.numbers.specs.declared.Refusal.the-variants.{Accepted, NotListed, BadRecord, PageWaiting, PageStarted, NoPage, TooShort, BadStore, TwoPages, NoneBetween, MostBetween}
@@ -21,10 +20,10 @@ use Rattle.calls.specs.declared.Fixed.{Fixed}
 use Rattle.calls.specs.Core.{Stores, Core, World, started}
 use Rattle.calls.specs.Commands.{issued, codes, lookUp, decode, controlTraits, traitsOf}
 use Rattle.calls.specs.Contents.{coreOk}
-use Rattle.calls.specs.Reset.{blankSheet, Kept, resetState, resetStores, fresh}
+use Rattle.calls.specs.Reset.{blankSheet, resetState, resetStores, fresh}
 use Rattle.calls.specs.Effects.{Effect, done, movedSheet, moveOf, writtenSheet, written, doWrite, completing, doControl, doCommand}
 use Rattle.calls.specs.Calls.{Call, command, release, tally, checkOf, refusalOf, pageCounted, emptied, released, doRelease, tallying, doTally, perform, effect, step}
-use Rattle.calls.specs.Start.{Asked, fixedBy, startRefusal, startKept, startWorld, startOutcome}
+use Rattle.calls.specs.Start.{Asked, fixedBy, startRefusal, startWorld, startOutcome}
 use Rattle.calls.specs.Premises.{Good, Free}
 use Rattle.calls.specs.Lists.{worldAfter}
 use Rattle.calls.proofs.Accepted.{started-world}

@@ -10,14 +10,13 @@ use lib.Seq.{take-at, drop-at, take-all, drop-drop, length-take-le}
 use lib.Dec.{eqb, leb}
 use mir.Val.{boolByte}
 use borrow.Author.Tests.{eqb-true, eq-eqb, leb-true}
-use Rattle.seq.specs.Words.{all, listed, from}
+use Rattle.seq.specs.Words.{all, listed}
 use Rattle.seq.proofs.Laws.{every-at, every-of, finally, also, listed-all, spelled, four}
 use Rattle.numbers.specs.declared.Sense.{Sense}
 use Rattle.form.specs.Form.{fcbSize}
 use Rattle.copies.specs.Copies.{pairSize}
 use Rattle.counters.specs.declared.Counters.{Counters}
 use Rattle.counters.specs.Counters.{counters}
-use Rattle.calls.specs.declared.Sheet.{Sheet}
 use Rattle.calls.specs.declared.State.{State}
 use Rattle.calls.specs.Core.{withCounters}
 use Rattle.calls.specs.Premises.{Sized}

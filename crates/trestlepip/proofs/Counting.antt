@@ -12,18 +12,18 @@ use Rattle.counters.specs.declared.Counters.{Counters}
 use Rattle.counters.specs.Counters.{startCounters, pagesOut, countersOk}
 use Rattle.calls.specs.Core.{Stores, World}
 use Rattle.calls.specs.Reset.{resetState, fresh}
-use Rattle.calls.specs.Calls.{Call, effect, lent, step}
+use Rattle.calls.specs.Calls.{Call, lent, step}
 use Rattle.calls.specs.Start.{Asked, startWorld}
 use Rattle.calls.specs.Lists.{worldAfter}
-use Rattle.calls.specs.Pages.{Pages, noPages, pagesBy, pagesOver}
+use Rattle.calls.specs.Pages.{Pages, noPages, pagesOver}
 use Rattle.calls.specs.Premises.{Sized}
 use Rattle.calls.proofs.Accepted.{started-world}
 use Rattle.calls.proofs.Answers.{names}
 use Rattle.calls.proofs.Invariants.{sized-call, sized-calls}
 use Rattle.calls.proofs.Counting.{pages-law, getsTwelve, getsThirteen, twelve-exactly, thirteen-exactly}
-use Rattle.calls.proofs.Reached.{Reached, every-reached}
+use Rattle.calls.proofs.Reached.{every-reached}
 use Rattle.state.specs.State.{coreAt, worldAt, readable}
-use Rattle.state.specs.Host.{Called, Held, heldOf, bytesAfter, heldIn, shown, unread, callBytes, startBytes}
+use Rattle.state.specs.Host.{Held, heldOf, bytesAfter, heldIn, shown, unread, callBytes, startBytes}
 use Rattle.state.proofs.Fields.{number-back}
 use Rattle.trestlepip.specs.Host.{numberIn, countersIn}
 use Rattle.trestlepip.specs.Pages.{pagesIn}

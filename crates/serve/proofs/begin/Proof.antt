@@ -5,9 +5,9 @@ use mathlib.Core.List.{[], _∷_}
 use Rattle.seq.specs.Words.{when, firstOr}
 use Rattle.numbers.specs.declared.Refusal.the-variants.{Accepted, BadStore, BadForm}
 use Rattle.numbers.specs.Numbers.{noSense, senseAfter, rowOf, isAccepted, only}
-use Rattle.calls.specs.Core.{Stores, World, storesOf}
+use Rattle.calls.specs.Core.{Stores, storesOf}
 use Rattle.calls.specs.Effects.{refused}
-use Rattle.calls.specs.Calls.{Outcome, outcomeOf}
+use Rattle.calls.specs.Calls.{outcomeOf}
 use Rattle.calls.specs.Start.{Asked, asked, startRefusal, startWorld, noState, noPrinter, startOutcome}
 use Rattle.calls.proofs.Accepted.{startable}
 use Rattle.calls.proofs.Refused.{refused-start}

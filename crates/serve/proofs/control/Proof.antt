@@ -1,5 +1,5 @@
 -- A case each, by that control's own method, and what it can have changed put back.
-use mathlib.Core.Path.{_≡_, refl, sym, ap, _∙_}
+use mathlib.Core.Path.{refl, sym, ap, _∙_}
 use mathlib.Core.Bool.{_&&_}
 use mathlib.Core.List.{List, []}
 use Prim.Native.Nat.{ℕ}

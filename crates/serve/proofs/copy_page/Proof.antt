@@ -8,16 +8,16 @@ use Rattle.numbers.proofs.Laws.{accepted-is}
 use Rattle.copies.specs.Copies.{copyCount}
 use Rattle.copies.proofs.CopiesLaws.{few-copies}
 use Rattle.calls.specs.declared.State.{State}
-use Rattle.calls.specs.Core.{Stores, Core, World, storesOf, laidOut}
+use Rattle.calls.specs.Core.{Stores, World, storesOf, laidOut}
 use Rattle.calls.specs.Contents.{coreOk}
 use Rattle.calls.specs.Effects.{refused}
-use Rattle.calls.specs.Calls.{Call, Outcome, compose, composeTests, refusalOf, doCompose, perform, step}
+use Rattle.calls.specs.Calls.{Call, Outcome, compose, composeTests, refusalOf, doCompose, perform}
 use Rattle.calls.specs.Premises.{Composable}
 use Rattle.calls.proofs.Accepted.{composable}
 use Rattle.calls.proofs.Good.{form-lines}
 use Rattle.calls.proofs.Refused.{compose-keeps}
 use Rattle.printer.specs.declared.Printer.{Printer}
-use Rattle.state.specs.State.{stateAt, coreAt, worldAt}
+use Rattle.state.specs.State.{stateAt, worldAt}
 use Rattle.state.specs.Host.{shown}
 use Rattle.state.proofs.Sound.{sound-good}
 use Rattle.serve.proofs.Put.{left-alone}

@@ -9,7 +9,7 @@ use Rattle.seq.proofs.Laws.{or-right}
 use Rattle.numbers.specs.Sizes.{lineWidth, legendSize, senseSize}
 use Rattle.numbers.specs.Numbers.{rowOf}
 use Rattle.calls.specs.declared.Command.{Command}
-use Rattle.calls.specs.Core.{Stores, Core, storesOf}
+use Rattle.calls.specs.Core.{Stores, storesOf}
 use Rattle.calls.specs.Commands.{Issued, issued, traitsOf}
 use Rattle.calls.specs.Effects.{refused, doCommand}
 use Rattle.calls.specs.Calls.{badRecord, checkOf}

@@ -1,5 +1,4 @@
 -- No-Op itself.
-use mathlib.Core.Path.{refl}
 use Rattle.numbers.specs.Numbers.{rowOf}
 use Rattle.calls.specs.Effects.{doControl}
 use borrow.Author.Needs.{needs}

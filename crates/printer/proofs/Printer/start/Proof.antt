@@ -7,7 +7,7 @@ use native.Mathlib.Omega.{arith}
 use lib.Dec.{leb}
 use lib.ListN.{replicate}
 use borrow.Author.Tests.{leb-true}
-use Rattle.seq.specs.Words.{every, listed}
+use Rattle.seq.specs.Words.{listed}
 use Rattle.seq.proofs.Laws.{and-left, and-right, every-at, listed-all}
 use Rattle.form.specs.Form.{pitchesListed, pitchesOk, formOk}
 use Rattle.form.proofs.FormLaws.{form-listed, short-form}

@@ -1,5 +1,5 @@
 -- Each part by its own function.
-use Rattle.state.specs.State.{stateAt, senseAt}
+use Rattle.state.specs.State.{stateAt}
 use borrow.Author.Needs.{needs}
 use Rattle.state.proofs.codec.decode.Statement.{statement}
 use Rattle.state.proofs.codec.decode.Tie as tie

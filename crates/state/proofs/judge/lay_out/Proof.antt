@@ -1,7 +1,5 @@
 -- Form length, FCB and count from their places.
-use mathlib.Core.Path.{ap, _∙_}
-use Rattle.calls.specs.declared.Fixed.{Fixed}
-use Rattle.form.specs.Form.{layoutOf, fcbNow}
+use mathlib.Core.Path.{_∙_}
 use Rattle.state.specs.State.{stateAt}
 use borrow.Author.Needs.{needs}
 use Rattle.state.proofs.judge.lay_out.Statement.{statement}
