@@ -27,7 +27,7 @@ enum {
 /* The bits of `flags`; that of slot n is LOADED_0 << n. */
 enum { WRITTEN = 0x01, WAITING = 0x02, DUE = 0x04, BLOCKED = 0x08, LOADED_0 = 0x10 };
 
-/* T-02: the page counters, in the order of the paper's way. */
+/* T-02: the page counters, in the order of the paper path. */
 enum counter { CHANNEL_PAGE, TRANSFER_PAGE, FUSER_PAGE, STACKER_PAGE, COUNTERS };
 
 /*

@@ -89,7 +89,7 @@ static void flush_sheets(struct spool *spool)
     spool->stopped = true;
 }
 
-/* The stations of the paper's way, in its order, each with the call that says that a page passed it. */
+/* The stations of the paper path, in their order, each with the call that says that a page passed it. */
 static const struct {
     const char *call;
     uint64_t (*passed)(uint8_t *, size_t, const uint8_t *, size_t, const uint8_t *, size_t, const uint8_t *, size_t);

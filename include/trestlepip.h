@@ -336,7 +336,7 @@ uint64_t trestlepip_release(
         uint8_t *legends, size_t legends_len, uint8_t *tables, size_t tables_len);
 
 /*
- * The page counters, one for each place of the paper's way: channel, transfer, fuser, stacker. Each is two bytes, and goes on from FFFF to 0000. Start
+ * The page counters, one for each place of the paper path: channel, transfer, fuser, stacker. Each is two bytes, and goes on from FFFF to 0000. Start
  * puts all at zero; a Release counts into the channel's; Initialize and its reset leave them. A page is counted once, whatever its copies.
  */
 static inline unsigned trestlepip_page_counter(const uint8_t *state, size_t at) { return state[at] * 256u + state[at + 1]; }

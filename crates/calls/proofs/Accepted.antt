@@ -17,7 +17,7 @@ use Rattle.numbers.specs.Numbers.{rowOf, numberOf, isAccepted, checked}
 use Rattle.numbers.proofs.Laws.{accepted-is, not-accepted, passed-check, goes-on}
 use Rattle.copies.specs.Copies.{copyCount}
 use Rattle.counters.specs.declared.Tally.{Tally}
-use Rattle.counters.specs.Counters.{noneBetween}
+use Rattle.counters.specs.Counters.{noneBetween, mostBetween}
 use Rattle.calls.specs.declared.State.{State}
 use Rattle.calls.specs.declared.Command.{Command}
 use Rattle.calls.specs.declared.Command.the-variants.{Write, Move, Controls, Loads, Unlisted}
@@ -26,7 +26,7 @@ use Rattle.calls.specs.Commands.{Issued, decode}
 use Rattle.calls.specs.Contents.{coreOk}
 use Rattle.calls.specs.Calls.{command, release, tally, badRecord, checkOf, commandTests, composeTests, refusalOf}
 use Rattle.calls.specs.Start.{Asked, startRefusal, startWorld, startOutcome}
-use Rattle.calls.specs.Premises.{Allowed, Composable, Releasable, Startable}
+use Rattle.calls.specs.Premises.{Allowed, Composable, Startable}
 
 pub allowed-by : (k : Core) (c : Command) (i : Issued) → firstOr Accepted (commandTests k c i) ≡ Accepted → Allowed k c i
 unfolding isAccepted rowOf
@@ -85,17 +85,14 @@ composable k n out e =
       room = ltb-false (length out) (lineBytes * P (k .state)) (h₄ .0);
     }
 
-pub releasable : (k : Core) → isAccepted (refusalOf k release) ≡ true → Releasable k
+-- T-02: an accepted Release has room for its page, and an accepted report a page to count.
+pub release-room : (k : Core) → isAccepted (refusalOf k release) ≡ true → mostBetween (k .state .counters) ≡ false
 unfolding refusalOf isAccepted rowOf
-releasable k e =
-    let h₁ = passed _ _ (not-accepted refl) (accepted-is _ e) in
-    let h₂ = passed _ _ (not-accepted refl) (h₁ .1) in
-    let h₃ = passed _ _ (not-accepted refl) (h₂ .1) in
-    record { ok = not-false (coreOk k) (h₁ .0); waits = not-false _ (h₂ .0); room = h₃ .0 }
+release-room k e = passed _ _ (not-accepted refl) (passed _ _ (not-accepted refl) (passed _ _ (not-accepted refl) (accepted-is _ e) .1) .1) .0
 
-pub tallyable : (k : Core) (t : Tally) → isAccepted (refusalOf k (tally t)) ≡ true → noneBetween t (k .state .counters) ≡ false
+pub tally-room : (k : Core) (t : Tally) → isAccepted (refusalOf k (tally t)) ≡ true → noneBetween t (k .state .counters) ≡ false
 unfolding refusalOf isAccepted rowOf
-tallyable k t e = passed _ _ (not-accepted refl) (passed _ _ (not-accepted refl) (accepted-is _ e) .1) .0
+tally-room k t e = passed _ _ (not-accepted refl) (passed _ _ (not-accepted refl) (accepted-is _ e) .1) .0
 
 pub startable : (a : Asked) (m : Stores) → isAccepted (startRefusal a m) ≡ true → Startable a m
 unfolding startRefusal isAccepted rowOf

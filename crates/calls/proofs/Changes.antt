@@ -30,7 +30,7 @@ use Rattle.calls.specs.Effects.{Effect, refused, done, movedCore, moveOf
 use Rattle.calls.specs.Calls.{Call, command, compose, release, tally, checkOf, refusalOf, doCompose, pageCounted, emptied, released, doRelease, tallying, doTally, perform, effect, step}
 use Rattle.calls.specs.Premises.{Good, Allowed, Free}
 use Rattle.calls.specs.Lists.{worldAfter}
-use Rattle.calls.proofs.Accepted.{allowed, releasable, tallyable}
+use Rattle.calls.proofs.Accepted.{allowed, release-room, tally-room}
 use Rattle.calls.proofs.Refused.{bad-store, by-outcome}
 use Rattle.calls.proofs.Answers.{was-free}
 use Rattle.calls.proofs.Good.{good, good-write, good-count, good-empty, move-went}
@@ -123,8 +123,8 @@ module _ {Q : Core → Type 0} (q : Survives Q) where
   unfolding perform doCompose doRelease doTally
   by-perform k (command i) e h = by-command k (decode (i .byte)) i (decode-small (i .byte)) (allowed k i e) (accepted-good k (command i) e) h
   by-perform k (compose n out) e h = h
-  by-perform k release e h = by-release (accepted-good k release e) (releasable k e .room) h
-  by-perform k (tally t) e h = q .tally t (accepted-good k (tally t) e) (tallyable k t e) h
+  by-perform k release e h = by-release (accepted-good k release e) (release-room k e) h
+  by-perform k (tally t) e h = q .tally t (accepted-good k (tally t) e) (tally-room k t e) h
 
   -- One call, and a list of calls.
   pub preserved : (k : Core) (c : Call) → Q k → Q (effect k c .core)

@@ -32,7 +32,7 @@ use Rattle.calls.specs.Start.{Asked, startRefusal, startWorld, startOutc
 use Rattle.calls.specs.Premises.{Good}
 use Rattle.calls.specs.Lists.{worldAfter}
 use Rattle.calls.specs.Pages.{Pages, noPages, pagesByTally, pagesBy, pagesOver}
-use Rattle.calls.proofs.Accepted.{tallyable, started-world}
+use Rattle.calls.proofs.Accepted.{tally-room, started-world}
 use Rattle.calls.proofs.Refused.{accepted-effect, refused-effect, not-given, release-keeps}
 use Rattle.calls.proofs.Good.{start-good}
 use Rattle.calls.proofs.Invariants.{good-call}
@@ -111,7 +111,7 @@ unfolding pagesBy
 law-perform k (command i) p g e h = h
 law-perform k (compose n out) p g e h = h
 law-perform k release p g e h = omega (arith, counted-out (reachable (k .state .counters) (g .counters)), h)
-law-perform k (tally t) p g e h = law-tally t (k .state .counters) p (reachable (k .state .counters) (g .counters)) (tallyable k t e) h
+law-perform k (tally t) p g e h = law-tally t (k .state .counters) p (reachable (k .state .counters) (g .counters)) (tally-room k t e) h
 
 law-call : (k : Core) (c : Call) (p : Pages) → Good k → Law (k .state .counters) p
     → Law (effect k c .core .state .counters) (cond (isAccepted (refusalOf k c)) (pagesBy c (k .state .counters) p) p)

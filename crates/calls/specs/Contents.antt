@@ -1,6 +1,6 @@
--- Document 01, "Numbers": contents no printer has, clause by clause in the paper's order, and after them T-02's, that calls can lead to the counters.
--- Every definition here is of that section. No
--- clause looks at the sense, at a cell, at a table's byte or at legend text: all of these are allowed.
+-- Document 01, "Numbers": contents no printer has, clause by clause in the paper's order; T-02's clause, about the page counters, comes last.
+-- Every definition here is of that section. No clause looks at the sense, at a cell, at a table's byte or at legend text: all of these
+-- are allowed.
 use Prim.Native.Nat.{ℕ}
 use mathlib.Core.Bool.{Bool, not, _&&_, _||_}
 use mathlib.Core.List.{List, [], _∷_}

@@ -14,7 +14,7 @@ use Rattle.line.specs.Line.{slotsInRange}
 use Rattle.copies.specs.declared.Copies.{Copies}
 use Rattle.copies.specs.Copies.{sequenceCheck, pairSize, sequenceNow, copyCount, copiesInRange}
 use Rattle.legends.specs.Legends.{legendsOk}
-use Rattle.counters.specs.Counters.{mostBetween, countersOk}
+use Rattle.counters.specs.Counters.{countersOk}
 use Rattle.calls.specs.declared.Fixed.{Fixed}
 use Rattle.calls.specs.declared.Sheet.{Sheet}
 use Rattle.calls.specs.declared.State.{State}
@@ -69,7 +69,7 @@ pub record Sized (s : State) : Type 0 where
   pub pairs : length (s .copies .pairs) ≡ pairSize
   pub fcb : length (s .forms .fcb) ≡ fcbSize
 
--- A command, a Compose, a Release and a Start that nothing refuses: no test of its order held.
+-- A command, a Compose and a Start that nothing refuses: no test of its order held.
 pub record Allowed (k : Core) (c : Command) (i : Issued) : Type 0 where
   pub ok : coreOk k ≡ true
   pub known : isUnlisted c ≡ false
@@ -84,11 +84,6 @@ pub record Composable (k : Core) (n : ℕ) (out : List ℕ) : Type 0 where
   pub low : 1 ≤ n
   pub high : n ≤ copyCount (k .state .copies)
   pub room : lineBytes * P (k .state) ≤ length out
-
-pub record Releasable (k : Core) : Type 0 where
-  pub ok : coreOk k ≡ true
-  pub waits : k .state .sheet .waiting ≡ true
-  pub room : mostBetween (k .state .counters) ≡ false
 
 pub record Startable (a : Asked) (m : Stores) : Type 0 where
   pub sizes : sizesOk m ≡ true

@@ -33,7 +33,15 @@ keptOf s = record { blocked = s .blocked; counters = s .counters }
 -- The reset. Of what was before, it looks at what Start fixed, at what it keeps, and at the page's bytes, and at nothing else.
 unfoldable pub resetState : Fixed → Kept → State
 resetState f k =
-    record { fixed = f; blocked = k .blocked; forms = formsOf (startFcb (f .length)); slots = startSlots; copies = startCopies; sheet = blankSheet 1; counters = k .counters }
+    record {
+      fixed = f;
+      blocked = k .blocked;
+      forms = formsOf (startFcb (f .length));
+      slots = startSlots;
+      copies = startCopies;
+      sheet = blankSheet 1;
+      counters = k .counters;
+    }
 
 unfoldable pub resetStores : List ℕ → Stores
 resetStores page = record { page = page; legends = noLegends; tables = startTables }

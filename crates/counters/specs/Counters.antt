@@ -8,7 +8,7 @@ use Rattle.counters.specs.declared.Counters.{Counters}
 use Rattle.counters.specs.declared.Tally.{Tally}
 use Rattle.counters.specs.declared.Tally.the-variants.{Transferred, Fused, Stacked, Cancel, Restart}
 
--- Two bytes each: after FFFF comes 0000. The pages between two of them are counted modulo 65,536, from the later one's count on to the earlier one's.
+-- Two bytes each: after FFFF comes 0000. The pages between two of them, of which n is the later on the paper path, are m less n modulo 65,536.
 abbrev pub next : ℕ → ℕ
 next n = (n + 1) % 2 ^ 16
 

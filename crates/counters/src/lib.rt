@@ -5,7 +5,7 @@ ghost use Rattle.counters.specs.Counters.{next, between, counted, transf
 pub mod lending;
 pub mod stations;
 
-// The pages counted at each place of the paper's way; after FFFF comes 0000.
+// The pages counted at each place of the paper path; after FFFF comes 0000.
 pub struct Counters {
     pub channel: u16,
     pub transfer: u16,
@@ -13,7 +13,7 @@ pub struct Counters {
     pub stacker: u16,
 }
 
-// The calls by which the spooler keeps the counters: a page passed a station, pages were cancelled, the engine was restarted.
+// The calls by which the spooler keeps the counters: a report for each station, a cancel, a restart.
 pub enum Tally {
     Transferred,
     Fused,
@@ -29,7 +29,7 @@ fn next(count: u16) -> u16
     std::num::wrapping_add_u16(count, 1)
 }
 
-// The pages between two counters, the second being the later one on the paper's way.
+// The pages between two counters, of which the second is the later on the paper path.
 fn between(count: u16, later: u16) -> u16
     ensures { λ r. ⌜ r ≡ between count later ⌝ }
 {
