@@ -31,20 +31,13 @@ use Rattle.calls.specs.Calls.{Call, command, compose, release, tally, re
 use Rattle.calls.specs.Start.{Asked, startRefusal, startWorld, startOutcome}
 use Rattle.calls.specs.Premises.{Good}
 use Rattle.calls.specs.Lists.{worldAfter}
-use Rattle.calls.specs.Pages.{Pages, noPages, pagesByTally, pagesBy, pagesOver}
+use Rattle.calls.specs.Pages.{countersBy, Pages, noPages, pagesByTally, pagesBy, pagesOver}
 use Rattle.calls.proofs.Accepted.{tally-room, started-world}
 use Rattle.calls.proofs.Refused.{accepted-effect, refused-effect, not-given, release-keeps}
 use Rattle.calls.proofs.Good.{start-good}
 use Rattle.calls.proofs.Invariants.{good-call}
 
--- What an accepted call makes of the counters: a Release counts, a report, a cancel and a restart do what they say, and no command touches them:
--- Initialize, and the reset of either kind, leave them.
-abbrev pub countersBy : Call → Counters → Counters
-countersBy (command i) c = c
-countersBy (compose n out) c = c
-countersBy release c = counted c
-countersBy (tally t) c = tallied t c
-
+-- No command touches the counters: Initialize, and the reset of either kind, leave them.
 load-leaves : (k : Core) (l : Load) (r : List ℕ) → loaded k l r .state .counters ≡ k .state .counters
 unfolding loaded
 load-leaves k Fcb r = refl
@@ -72,13 +65,13 @@ command-leaves k (Loads l) i = load-leaves k l (i .sent)
 command-leaves k Unlisted i = refl
 
 perform-counts : (k : Core) (c : Call) → perform k c .core .state .counters ≡ countersBy c (k .state .counters)
-unfolding perform doCompose doRelease released pageCounted emptied reset resetState doTally tallying
+unfolding perform doCompose doRelease released pageCounted emptied reset resetState doTally tallying countersBy
 perform-counts k (command i) = command-leaves k (decode (i .byte)) i
 perform-counts k (compose n out) = refl
 perform-counts k release = cond-has (λ (x : Core). x .state .counters ≡ counted (k .state .counters)) (k .state .sheet .due) (λ t. refl) (λ t. refl)
 perform-counts k (tally t) = refl
 
--- Every call: an accepted one does that, and a refused one nothing.
+-- Every call: an accepted one does what `countersBy` says, and a refused one nothing.
 pub call-counts : (k : Core) (c : Call)
     → effect k c .core .state .counters ≡ cond (isAccepted (refusalOf k c)) (countersBy c (k .state .counters)) (k .state .counters)
 unfolding refused
@@ -107,7 +100,7 @@ law-tally Restart c p r e h = omega (arith, restarted-out r)
 
 law-perform : (k : Core) (c : Call) (p : Pages) → Good k → isAccepted (refusalOf k c) ≡ true → Law (k .state .counters) p
     → Law (countersBy c (k .state .counters)) (pagesBy c (k .state .counters) p)
-unfolding pagesBy
+unfolding pagesBy countersBy
 law-perform k (command i) p g e h = h
 law-perform k (compose n out) p g e h = h
 law-perform k release p g e h = omega (arith, counted-out (reachable (k .state .counters) (g .counters)), h)

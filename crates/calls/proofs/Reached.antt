@@ -1,4 +1,4 @@
--- T-02: all counters that get no 9 can be reached: from every Start some list of calls leads to them. So 9 is not too wide; that it is not too narrow is
+-- T-02: all counters that get no 9 can be reached: from every Start some list of calls leads to them. So 9 is not too narrow; that it is not too wide is
 -- `never-9` (Invariants).
 use Prim.Native.Nat.{ℕ, zero, suc, _+_, _%_, _^_, _≤_, _<_}
 use mathlib.Core.Path.{_≡_, refl, ap, _∙_}

@@ -1,4 +1,5 @@
--- Document 02, T-02: the pages that a list of calls has released, cancelled and stacked, counted over its accepted calls since Start or the latest restart.
+-- Document 02, T-02: what each call makes of the page counters; and the pages that a list of calls has released, cancelled and stacked, counted over its
+-- accepted calls since Start or the latest restart.
 use Prim.Native.Nat.{ℕ, _+_}
 use mathlib.Core.Bool.{cond}
 use mathlib.Core.List.{List, [], _∷_}
@@ -6,9 +7,16 @@ use Rattle.numbers.specs.Numbers.{isAccepted}
 use Rattle.counters.specs.declared.Counters.{Counters}
 use Rattle.counters.specs.declared.Tally.{Tally}
 use Rattle.counters.specs.declared.Tally.the-variants.{Transferred, Fused, Stacked, Cancel, Restart}
-use Rattle.counters.specs.Counters.{between}
+use Rattle.counters.specs.Counters.{between, counted, tallied}
 use Rattle.calls.specs.Core.{Core}
 use Rattle.calls.specs.Calls.{Call, command, compose, release, tally, refusalOf, effect}
+
+-- An accepted Release counts, an accepted report, cancel or restart does what it says, and no other call touches the counters.
+unfoldable pub countersBy : Call → Counters → Counters
+countersBy (command i) c = c
+countersBy (compose n out) c = c
+countersBy release c = counted c
+countersBy (tally t) c = tallied t c
 
 pub record Pages : Type 0 where
   pub released : ℕ

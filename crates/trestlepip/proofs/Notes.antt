@@ -11,7 +11,6 @@ use Rattle.numbers.specs.Numbers.{isAccepted}
 use Rattle.movement.specs.declared.Moved.{Moved}
 use Rattle.movement.specs.Movement.{still, toTop}
 use Rattle.counters.specs.declared.Tally.{Tally}
-use Rattle.counters.specs.Counters.{counted}
 use Rattle.calls.specs.declared.Sheet.{Sheet}
 use Rattle.calls.specs.declared.Load.{Load}
 use Rattle.calls.specs.declared.Load.the-variants.{Fcb, TranslateTable, CopyModification, OverlaySequence, CopyNumber}
@@ -23,9 +22,10 @@ use Rattle.calls.specs.Commands.{Issued, decode, controlTraits, traitsOf}
 use Rattle.calls.specs.Contents.{dueOk}
 use Rattle.calls.specs.Reset.{blankSheet, Kept, keptOf, resetState, reset, fresh}
 use Rattle.calls.specs.Effects.{Effect, refused, done, movedSheet, moveOf, writtenSheet, written, atLine1, loaded, doMove, doWrite, doLoad, completing, doControl, doCommand}
-use Rattle.calls.specs.Calls.{Call, command, compose, release, tally, pageCounted, emptied, released, doRelease, tallying, doTally, perform, effect, step}
+use Rattle.calls.specs.Calls.{Call, command, compose, release, tally, refusalOf, pageCounted, emptied, released, doRelease, tallying, doTally, perform, effect, step}
 use Rattle.calls.specs.Start.{Asked, startWorld}
 use Rattle.calls.specs.Lists.{worldAfter, counts, Deed, deedOf, finishesReset, Given, given, Since, sinceNow, note, sinceOver, sinceReset}
+use Rattle.calls.specs.Pages.{countersBy}
 use Rattle.calls.specs.Premises.{Sized}
 use Rattle.calls.proofs.Accepted.{allowed}
 use Rattle.calls.proofs.Refused.{accepted-effect}
@@ -33,67 +33,66 @@ use Rattle.calls.proofs.Answers.{names, was-free}
 use Rattle.calls.proofs.Good.{good}
 use Rattle.calls.proofs.Invariants.{sized-call}
 use Rattle.calls.proofs.SinceReset.{idle-core}
+use Rattle.calls.proofs.Counting.{call-counts}
 use Rattle.state.specs.Packed.{packed}
 use Rattle.state.specs.Host.{heldIn, shown}
 use Rattle.state.proofs.Fitting.{accepted-fits}
 use Rattle.state.proofs.Fields.{fields, number-back}
 use Rattle.trestlepip.specs.Host.{readyIn}
-use Rattle.trestlepip.specs.Notes.{countsBy, finishesBy, dueBy, controlSwitch, commandSwitch, keptBy, Noted, Notes, deedsIn, noteCall, notesOver, notes}
+use Rattle.trestlepip.specs.Notes.{countsBy, finishesBy, dueBy, controlSwitch, commandSwitch, switchBy, keptBy, Noted, Notes, deedsIn, noteCall, notesOver, notes}
 use Rattle.trestlepip.proofs.Steps.{call-steps}
 
--- What a command leaves of counters, switch and reset, where none is due before it: Block and Allow set the switch, and only an Initialize that completes a page
+-- What a command leaves of switch and reset, where none is due before it: Block and Allow set the switch, and only an Initialize that completes a page
 -- makes a reset due.
 record Leaves (k : Core) (c : Command) (e : Effect) : Type 0 where
-  counters : e .core .state .counters ≡ k .state .counters
   blocked : e .core .state .blocked ≡ commandSwitch c (k .state .blocked)
   due : e .core .state .sheet .due ≡ (traitsOf c .resets && e .answer .ready)
   ready : traitsOf c .resets ≡ true → e .answer .ready ≡ started (k .state .sheet)
 
 -- a command that is no Initialize
-keeps : {k : Core} {c : Command} {e : Effect} → traitsOf c .resets ≡ false → e .core .state .counters ≡ k .state .counters
-    → e .core .state .blocked ≡ commandSwitch c (k .state .blocked) → e .core .state .sheet .due ≡ false → Leaves k c e
-keeps r n b d = record { counters = n; blocked = b; due = rw r d; ready = λ t. absurd (false≢true (sym r ∙ t)) }
+keeps : {k : Core} {c : Command} {e : Effect} → traitsOf c .resets ≡ false → e .core .state .blocked ≡ commandSwitch c (k .state .blocked)
+    → e .core .state .sheet .due ≡ false → Leaves k c e
+keeps r b d = record { blocked = b; due = rw r d; ready = λ t. absurd (false≢true (sym r ∙ t)) }
 
 moved-due : (s : Sheet) (m : Moved) → s .due ≡ false → movedSheet false s m .due ≡ false
 unfolding movedSheet
 moved-due s m d = cond-has (λ (x : Sheet). x .due ≡ false) (eqb (m .pages) 0) (λ t. d) (λ t. refl)
 
-loaded-leaves : (k : Core) (l : Load) (r : List ℕ)
-    → (loaded k l r .state .counters ≡ k .state .counters) × (loaded k l r .state .blocked ≡ k .state .blocked) × (loaded k l r .state .sheet .due ≡ k .state .sheet .due)
+loaded-leaves : (k : Core) (l : Load) (r : List ℕ) → (loaded k l r .state .blocked ≡ k .state .blocked) × (loaded k l r .state .sheet .due ≡ k .state .sheet .due)
 unfolding loaded atLine1
-loaded-leaves k Fcb r = (refl, refl, refl)
-loaded-leaves k TranslateTable r = (refl, refl, refl)
-loaded-leaves k CopyModification r = (refl, refl, refl)
-loaded-leaves k OverlaySequence r = (refl, refl, refl)
-loaded-leaves k CopyNumber r = (refl, refl, refl)
+loaded-leaves k Fcb r = (refl, refl)
+loaded-leaves k TranslateTable r = (refl, refl)
+loaded-leaves k CopyModification r = (refl, refl)
+loaded-leaves k OverlaySequence r = (refl, refl)
+loaded-leaves k CopyNumber r = (refl, refl)
 
 leaves : (k : Core) (c : Command) (i : Issued) → k .state .sheet .due ≡ false → Leaves k c (doCommand k c i)
 unfolding doCommand doControl doWrite doMove doLoad completing done written writtenSheet reset resetState blankSheet movedSheet toTop still refused traitsOf controlTraits commandSwitch controlSwitch
-leaves k (Write m) i d = keeps refl refl refl (moved-due (writtenSheet (k .state .sheet)) (moveOf (k .state) m) d)
-leaves k (Move m) i d = keeps refl refl refl (moved-due (k .state .sheet) (moveOf (k .state) m) d)
-leaves k (Controls NoOp) i d = keeps refl refl refl d
-leaves k (Controls SenseIo) i d = keeps refl refl refl d
+leaves k (Write m) i d = keeps refl refl (moved-due (writtenSheet (k .state .sheet)) (moveOf (k .state) m) d)
+leaves k (Move m) i d = keeps refl refl (moved-due (k .state .sheet) (moveOf (k .state) m) d)
+leaves k (Controls NoOp) i d = keeps refl refl d
+leaves k (Controls SenseIo) i d = keeps refl refl d
 leaves k (Controls Initialize) i d = go (started (k .state .sheet)) refl
   where
     go : (t : Bool) → started (k .state .sheet) ≡ t → Leaves k (Controls Initialize) (completing k true (reset k))
-    go true e = rw e (record { counters = refl; blocked = refl; due = refl; ready = λ r. sym e })
-    go false e = rw e (record { counters = refl; blocked = refl; due = refl; ready = λ r. sym e })
+    go true e = rw e (record { blocked = refl; due = refl; ready = λ r. sym e })
+    go false e = rw e (record { blocked = refl; due = refl; ready = λ r. sym e })
 leaves k (Controls Clear) i d =
-    cond-has (Leaves k (Controls Clear)) (started (k .state .sheet)) (λ t. keeps refl refl refl refl) (λ t. keeps refl refl refl d)
-leaves k (Controls Block) i d = keeps refl refl refl d
-leaves k (Controls Allow) i d = keeps refl refl refl d
-leaves k (Controls (Select n)) i d = keeps refl refl refl d
-leaves k (Loads l) i d = let h = loaded-leaves k l (i .sent) in keeps refl (h .0) (h .1) (h .2 ∙ d)
-leaves k Unlisted i d = keeps refl refl refl d
+    cond-has (Leaves k (Controls Clear)) (started (k .state .sheet)) (λ t. keeps refl refl refl) (λ t. keeps refl refl d)
+leaves k (Controls Block) i d = keeps refl refl d
+leaves k (Controls Allow) i d = keeps refl refl d
+leaves k (Controls (Select n)) i d = keeps refl refl d
+leaves k (Loads l) i d = let h = loaded-leaves k l (i .sent) in keeps refl (h .0) (h .1 ∙ d)
+leaves k Unlisted i d = keeps refl refl d
 
 -- None is due where a command counts: no page waits.
 free-due : (d w : Bool) → (not d || w) ≡ true → w ≡ false → d ≡ false
 free-due true w e h = sym e ∙ h
 free-due false w e h = refl
 
-counts-leaves : (k : Core) (i : Issued) → counts k (command i) ≡ true → Leaves k (decode (i .byte)) (effect k (command i))
+counted : (k : Core) (i : Issued) → counts k (command i) ≡ true → Leaves k (decode (i .byte)) (effect k (command i))
 unfolding counts perform dueOk
-counts-leaves k i e =
+counted k i e =
     let a = every-at 0 _ e in
     let p = allowed k i a in
     let free = was-free {q = traitsOf (decode (i .byte)) .quiet} (not-true _ (every-at 1 _ e)) (p .free) in
@@ -101,17 +100,27 @@ counts-leaves k i e =
     (leaves k (decode (i .byte)) i (free-due _ (k .state .sheet .waiting) (good k (p .ok) .sheet .due) free))
 
 release-leaves : (k : Core) → counts k release ≡ true
-    → (keptOf (effect k release .core .state) ≡ keptBy release (keptOf (k .state))) × (effect k release .core .state .sheet .due ≡ false)
-unfolding counts perform doRelease released pageCounted emptied reset resetState blankSheet keptBy
+    → (effect k release .core .state .blocked ≡ k .state .blocked) × (effect k release .core .state .sheet .due ≡ false)
+unfolding counts perform doRelease released pageCounted emptied reset resetState blankSheet
 release-leaves k e =
     rw (accepted-effect k release e)
-    (cond-has (λ (x : Core). (keptOf (x .state) ≡ record { blocked = k .state .blocked; counters = counted (k .state .counters) }) × (x .state .sheet .due ≡ false)) (k .state .sheet .due)
-    (λ t. (refl, refl)) (λ t. (refl, refl)))
+    (cond-has (λ (x : Core). (x .state .blocked ≡ k .state .blocked) × (x .state .sheet .due ≡ false)) (k .state .sheet .due) (λ t. (refl, refl)) (λ t. (refl, refl)))
 
 tally-leaves : (k : Core) (t : Tally) → counts k (tally t) ≡ true
-    → (keptOf (effect k (tally t) .core .state) ≡ keptBy (tally t) (keptOf (k .state))) × (effect k (tally t) .core .state .sheet .due ≡ k .state .sheet .due)
-unfolding counts perform doTally tallying keptBy
+    → (effect k (tally t) .core .state .blocked ≡ k .state .blocked) × (effect k (tally t) .core .state .sheet .due ≡ k .state .sheet .due)
+unfolding counts perform doTally tallying
 tally-leaves k t e = rw (accepted-effect k (tally t) e) (refl, refl)
+
+-- A call that counts is accepted, and changes the counters as it says.
+counts-accepted : (k : Core) (c : Call) → counts k c ≡ true → isAccepted (refusalOf k c) ≡ true
+unfolding counts
+counts-accepted k (command i) e = every-at 0 _ e
+counts-accepted k (compose n out) e = absurd (false≢true e)
+counts-accepted k release e = e
+counts-accepted k (tally t) e = e
+
+counters-told : (k : Core) (c : Call) → counts k c ≡ true → countersBy c (k .state .counters) ≡ effect k c .core .state .counters
+counters-told k c e = rw (call-counts k c, counts-accepted k c e)
 
 -- Page ready comes back from the answer of a command that counts.
 bit-is : (b : Bool) → eqb (bit b 1) 1 ≡ b
@@ -142,7 +151,7 @@ module _ (w : World) where
   finishes-told (command i) =
       rw (counts-told (command i))
       (third (counts (w .core) (command i)) (traitsOf (decode (i .byte)) .resets)
-      (λ a r. ap not (ready-told (w .core) i a ∙ counts-leaves (w .core) i a .ready r)))
+      (λ a r. ap not (ready-told (w .core) i a ∙ counted (w .core) i a .ready r)))
   finishes-told (compose n out) = refl
   finishes-told release = rw (counts-told release)
   finishes-told (tally t) = refl
@@ -150,17 +159,21 @@ module _ (w : World) where
   due-told : (c : Call) → counts (w .core) c ≡ true
       → dueBy (w .core .state .sheet .due) c (packed (step w c .answer)) ≡ effect (w .core) c .core .state .sheet .due
   unfolding dueBy step counts
-  due-told (command i) a = rw (ready-told (w .core) i a) (sym (counts-leaves (w .core) i a .due))
+  due-told (command i) a = rw (ready-told (w .core) i a) (sym (counted (w .core) i a .due))
   due-told (compose n out) a = absurd (false≢true a)
   due-told release a = sym (release-leaves (w .core) a .1)
   due-told (tally t) a = sym (tally-leaves (w .core) t a .1)
 
+  switch-told : (c : Call) → counts (w .core) c ≡ true → switchBy c (w .core .state .blocked) ≡ effect (w .core) c .core .state .blocked
+  unfolding switchBy counts
+  switch-told (command i) a = sym (counted (w .core) i a .blocked)
+  switch-told (compose n out) a = absurd (false≢true a)
+  switch-told release a = sym (release-leaves (w .core) a .0)
+  switch-told (tally t) a = sym (tally-leaves (w .core) t a .0)
+
   kept-told : (c : Call) → counts (w .core) c ≡ true → keptBy c (keptOf (w .core .state)) ≡ keptOf (effect (w .core) c .core .state)
-  unfolding keptBy counts
-  kept-told (command i) a = let l = counts-leaves (w .core) i a in rw (l .blocked, l .counters)
-  kept-told (compose n out) a = absurd (false≢true a)
-  kept-told release a = sym (release-leaves (w .core) a .0)
-  kept-told (tally t) a = sym (tally-leaves (w .core) t a .0)
+  unfolding keptBy
+  kept-told c a = rw (switch-told c a, counters-told (w .core) c a)
 
 -- The packed answers of what a host noted, and of what the definitions say.
 abbrev pub answersIn : List Noted → List ℕ

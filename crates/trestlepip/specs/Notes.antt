@@ -5,7 +5,6 @@ use mathlib.Core.Bool.{Bool, true, false, cond, not, _&&_}
 use mathlib.Core.List.{List, [], _∷_, map}
 use lib.Dec.{eqb}
 use Rattle.seq.specs.Words.{every}
-use Rattle.counters.specs.Counters.{counted, tallied}
 use Rattle.calls.specs.declared.Control.{Control}
 use Rattle.calls.specs.declared.Control.the-variants.{NoOp, SenseIo, Initialize, Clear, Block, Allow, Select}
 use Rattle.calls.specs.declared.Command.{Command}
@@ -15,6 +14,7 @@ use Rattle.calls.specs.Reset.{Kept}
 use Rattle.calls.specs.Calls.{Call, command, compose, release, tally}
 use Rattle.calls.specs.Start.{startKept}
 use Rattle.calls.specs.Lists.{Deed, deedOf}
+use Rattle.calls.specs.Pages.{countersBy}
 use Rattle.state.specs.Host.{Called, Held, heldOf, callOn}
 use Rattle.trestlepip.specs.Host.{numberIn, readyIn}
 
@@ -39,8 +39,7 @@ dueBy due (compose n out) answer = false
 dueBy due release answer = false
 dueBy due (tally t) answer = due
 
--- What a reset keeps, after a call that counts, which found it at k: Block and Allow set the data-check switch; a release, a report, a cancel and a restart
--- change the counters.
+-- The data-check switch after a call that counts, which found it at b: Block and Allow set it.
 unfoldable pub controlSwitch : Control → Bool → Bool
 controlSwitch NoOp b = b
 controlSwitch SenseIo b = b
@@ -57,11 +56,15 @@ commandSwitch (Controls c) b = controlSwitch c b
 commandSwitch (Loads l) b = b
 commandSwitch Unlisted b = b
 
+unfoldable pub switchBy : Call → Bool → Bool
+switchBy (command i) b = commandSwitch (decode (i .byte)) b
+switchBy (compose n out) b = b
+switchBy release b = b
+switchBy (tally t) b = b
+
+-- What a reset keeps, after a call that counts, which found it at k: the switch, and the page counters.
 unfoldable pub keptBy : Call → Kept → Kept
-keptBy (command i) k = record { blocked = commandSwitch (decode (i .byte)) (k .blocked); counters = k .counters }
-keptBy (compose n out) k = k
-keptBy release k = record { blocked = k .blocked; counters = counted (k .counters) }
-keptBy (tally t) k = record { blocked = k .blocked; counters = tallied t (k .counters) }
+keptBy c k = record { blocked = switchBy c (k .blocked); counters = countersBy c (k .counters) }
 
 -- A call that counts: the deed, its packed answer, and what the host holds right after it.
 pub record Noted : Type 0 where
