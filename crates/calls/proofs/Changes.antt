@@ -3,7 +3,7 @@
 use Prim.Native.Nat.{ℕ, _≤_}
 use mathlib.Core.Path.{_≡_, refl, sym, ap, _∙_}
 use mathlib.Core.Bool.{Bool, true, false, true≢false}
-use mathlib.Core.List.{List, [], _∷_}
+use mathlib.Core.List.{List, [], _∷_, _++_}
 use mathlib.Core.Logic.{_⊎_, inl, inr}
 use lib.ListN.{length}
 use lib.Dec.{eqb, leb, ltb}
@@ -34,6 +34,12 @@ use Rattle.calls.proofs.Accepted.{allowed, release-room, tally-room}
 use Rattle.calls.proofs.Refused.{bad-store, by-outcome}
 use Rattle.calls.proofs.Answers.{was-free}
 use Rattle.calls.proofs.Good.{good, good-write, good-count, good-empty, move-went}
+
+-- Calls after calls.
+pub after-append : (w : World) (xs ys : List Call) → worldAfter w (xs ++ ys) ≡ worldAfter (worldAfter w xs) ys
+unfolding worldAfter
+after-append w [] ys = refl
+after-append w (x ∷ xs) ys = after-append (step w x .world) xs ys
 
 -- A reset finds nothing on the page: it is not started, or was emptied just before.
 abbrev pub Unused : Core → Type 0

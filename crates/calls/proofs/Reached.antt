@@ -29,6 +29,7 @@ use Rattle.calls.specs.Lists.{worldAfter}
 use Rattle.calls.proofs.Accepted.{started-world}
 use Rattle.calls.proofs.Refused.{accepted-effect, one-page-only, only-first}
 use Rattle.calls.proofs.Good.{ok, start-good}
+use Rattle.calls.proofs.Changes.{after-append}
 use Rattle.calls.proofs.Invariants.{good-call, good-calls}
 
 -- A page: something written on line 1, the page completed, and released.
@@ -101,11 +102,6 @@ tally-left f c t w e g some =
 pub record Reached (f : Fixed) (w : World) (c : Counters) : Type 0 where
   pub calls : List Call
   pub leaves : worldAfter w calls .core ≡ reset-with f c
-
-after-append : (w : World) (xs ys : List Call) → worldAfter w (xs ++ ys) ≡ worldAfter (worldAfter w xs) ys
-unfolding worldAfter
-after-append w [] ys = refl
-after-append w (x ∷ xs) ys = after-append (step w x .world) xs ys
 
 -- step by step up to m
 upTo : (P : ℕ → Type 0) (m : ℕ) → ((n : ℕ) → n < m → P n → P (suc n)) → P 0 → (n : ℕ) → n ≤ m → P n

@@ -118,43 +118,28 @@ pub refused-keeps : (w : World) (c : Call) → isAccepted (refusalOf (w .core) c
 refused-keeps w c e h =
     ap (λ (o : Outcome). o .world) (refused-step w c e) ∙ rw (sense-kept (sizeOf c) (refusalOf (w .core) c) h (never-10 (w .core) c))
 
--- Compose leaves all as it was: none of its refusals touches the sense.
-compose-tells : (a b c d : Bool)
-    → tells (firstOr Accepted (when a BadStore ∷ when b NoPage ∷ when c BadIndex ∷ when d TooShort ∷ [])) ≡ false
-unfolding firstOr when rowOf
-compose-tells true b c d = refl
-compose-tells false true c d = refl
-compose-tells false false true d = refl
-compose-tells false false false true = refl
-compose-tells false false false false = refl
+-- A call whose order names none of 1, 3 and 5 keeps the sense where it is refused. Such are all calls except commands.
+quietly : (k : Core) (c : Call) → every (map (noneOf (numbersOf c)) (1 ∷ 3 ∷ 5 ∷ [])) ≡ true → tells (refusalOf k c) ≡ false
+quietly k c e =
+    let one : eqb (numberOf (refusalOf k c)) 1 ≡ false = not-given 1 k c (inr refl) (every-at 0 _ e) in
+    let three : eqb (numberOf (refusalOf k c)) 3 ≡ false = not-given 3 k c (inr refl) (every-at 1 _ e) in
+    let five : eqb (numberOf (refusalOf k c)) 5 ≡ false = not-given 5 k c (inr refl) (every-at 2 _ e) in
+    rw (one, three, five)
 
+-- So Compose leaves all as it was, and a refused Release, report, cancel or restart does.
 pub compose-keeps : (w : World) (n : ℕ) (out : List ℕ) → step w (compose n out) .world ≡ w
-unfolding step refused perform doCompose refusalOf
+unfolding step refused perform doCompose every
 compose-keeps w n out =
     by-outcome (λ (e : Effect). record { core = e .core; sense = senseAfter (w .sense) (e .sense) } ≡ w) (w .core) (compose n out) (λ a. refl)
-    (λ a. rw (sense-kept 0 (refusalOf (w .core) (compose n out)) (compose-tells _ _ _ _) (never-10 (w .core) (compose n out))))
-
--- A refused Release, report, cancel or restart leaves all as it was: their refusals do not touch the sense either.
-release-tells : (a b c : Bool) → tells (firstOr Accepted (when a BadStore ∷ when b NoPage ∷ when c MostBetween ∷ [])) ≡ false
-unfolding firstOr when rowOf
-release-tells true b c = refl
-release-tells false true c = refl
-release-tells false false true = refl
-release-tells false false false = refl
+    (λ a. rw (sense-kept 0 (refusalOf (w .core) (compose n out)) (quietly (w .core) (compose n out) refl) (never-10 (w .core) (compose n out))))
 
 pub release-keeps : (w : World) → isAccepted (refusalOf (w .core) release) ≡ false → step w release .world ≡ w
-unfolding refusalOf
-release-keeps w e = refused-keeps w release e (release-tells _ _ _)
-
-tally-tells : (a b : Bool) → tells (firstOr Accepted (when a BadStore ∷ when b NoneBetween ∷ [])) ≡ false
-unfolding firstOr when rowOf
-tally-tells true b = refl
-tally-tells false true = refl
-tally-tells false false = refl
+unfolding every
+release-keeps w e = refused-keeps w release e (quietly (w .core) release refl)
 
 pub tally-keeps : (w : World) (t : Tally) → isAccepted (refusalOf (w .core) (tally t)) ≡ false → step w (tally t) .world ≡ w
-unfolding refusalOf
-tally-keeps w t e = refused-keeps w (tally t) e (tally-tells _ _)
+unfolding every
+tally-keeps w t e = refused-keeps w (tally t) e (quietly (w .core) (tally t) refl)
 
 -- The number given is that of the first test of the order which holds, and only of that: Accepted exactly where none does.
 pub first-given : (k : Core) (c : Call) → First Accepted (testsOf k c) (refusalOf k c)

@@ -66,14 +66,14 @@ counters-last s q z =
     ∙ ap (drop fcbSize) (drop-at (s .copies .pairs) (tail s) pairSize (z .pairs))
     ∙ drop-at (s .forms .fcb) (counterBytes (s .counters)) fcbSize (z .fcb)
 
-abbrev countersIn : List ℕ → Counters
-countersIn l = counters (pairAt l 0) (pairAt l 2) (pairAt l 4) (pairAt l 6)
+abbrev eight : List ℕ → Counters
+eight l = counters (pairAt l 0) (pairAt l 2) (pairAt l 4) (pairAt l 6)
 
 counters-back : (s : State) (q : Sense) → Sized s → stateAt (bytesOf s q) .counters ≡ s .counters
 unfolding stateAt
 counters-back s q z =
     let c = s .counters in
-    ap countersIn (spelled 0 channelAt 8 (bytesOf s q) (omega (arith, long s q z)) ∙ ap (take 8) (counters-last s q z))
+    ap eight (spelled 0 channelAt 8 (bytesOf s q) (omega (arith, long s q z)) ∙ ap (take 8) (counters-last s q z))
     ∙ simp (div-add-mod' (c .channel) 256, div-add-mod' (c .transfer) 256, div-add-mod' (c .fuser) 256, div-add-mod' (c .stacker) 256)
 
 others-back : (s : State) (q : Sense) → Sized s → withCounters (stateAt (bytesOf s q)) (s .counters) ≡ s

@@ -88,6 +88,10 @@ flagAt s n = eqb (byteAt s n) 1
 abbrev pub pairAt : List ℕ → ℕ → ℕ
 pairAt s n = byteAt s n * 256 + byteAt s (n + 1)
 
+-- T-02: the page counters.
+abbrev pub countersAt : List ℕ → Counters
+countersAt s = counters (pairAt s channelAt) (pairAt s transferAt) (pairAt s fuserAt) (pairAt s stackerAt)
+
 unfoldable pub stateAt : List ℕ → State
 stateAt s =
     record {
@@ -105,7 +109,7 @@ stateAt s =
           };
       copies = record { pairs = take pairSize (drop pairsAt s); count = byteAt s pairCountAt; reference = byteAt s referenceAt };
       sheet = record { line = byteAt s sheetAt; written = flagAt s writtenAt; waiting = flagAt s waitingAt; due = flagAt s dueAt };
-      counters = counters (pairAt s channelAt) (pairAt s transferAt) (pairAt s fuserAt) (pairAt s stackerAt);
+      counters = countersAt s;
     }
 
 unfoldable pub senseAt : List ℕ → Sense

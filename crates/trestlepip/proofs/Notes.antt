@@ -31,6 +31,7 @@ use Rattle.calls.proofs.Accepted.{allowed}
 use Rattle.calls.proofs.Refused.{accepted-effect}
 use Rattle.calls.proofs.Answers.{names, was-free}
 use Rattle.calls.proofs.Good.{good}
+use Rattle.calls.proofs.Changes.{after-append}
 use Rattle.calls.proofs.Invariants.{sized-call}
 use Rattle.calls.proofs.SinceReset.{idle-core}
 use Rattle.calls.proofs.Counting.{call-counts}
@@ -202,11 +203,6 @@ pub record Agrees (w v : World) (s : Since) (n : Notes) : Type 0 where
   pub told : Told w (n .kept) (n .calls)
 
 -- A list with one more call.
-after-one : (w : World) (xs : List Call) (c : Call) → worldAfter w (xs ++ (c ∷ [])) ≡ step (worldAfter w xs) c .world
-unfolding worldAfter
-after-one w [] c = refl
-after-one w (x ∷ xs) c = after-one (step w x .world) xs c
-
 since-one : (w : World) (s : Since) (xs : List Call) (c : Call)
     → sinceOver (w .core) s (xs ++ (c ∷ [])) ≡ note (worldAfter w xs .core) (sinceOver (w .core) s xs) c
 unfolding sinceOver worldAfter step
@@ -228,7 +224,8 @@ module _ (w v : World) (s : Since) (xs : List Call) (ew : worldAfter w xs ≡ v)
   finishes-noted = rw (h .due) (finishes-told v c)
 
   after-call : worldAfter w (xs ++ (c ∷ [])) ≡ step v c .world
-  after-call = after-one w xs c ∙ ap (λ (x : World). step x c .world) ew
+  unfolding worldAfter
+  after-call = after-append w xs (c ∷ []) ∙ ap (λ (x : World). step x c .world) ew
 
   since-call : sinceReset w (xs ++ (c ∷ [])) ≡ note (v .core) s c
   unfolding sinceReset

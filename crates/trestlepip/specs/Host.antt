@@ -6,9 +6,8 @@ use lib.Dec.{eqb}
 use lib.ListN.{take, drop}
 use Rattle.line.specs.declared.Unprintables.{Unprintables}
 use Rattle.counters.specs.declared.Counters.{Counters}
-use Rattle.counters.specs.Counters.{counters}
-use Rattle.printer.specs.Layout.{sense0At, pairsAt, channelAt, transferAt, fuserAt, stackerAt}
-use Rattle.state.specs.State.{pairAt}
+use Rattle.printer.specs.Layout.{sense0At, pairsAt}
+use Rattle.state.specs.State.{countersAt}
 use Rattle.state.specs.Host.{Held}
 use Rattle.state.specs.Packed.{field}
 
@@ -25,7 +24,7 @@ toldBy answer = record { first = field answer 41 8; count = field answer 49 15 }
 
 -- T-02: the page counters, as the C header reads them from the state.
 abbrev pub countersIn : Held → Counters
-countersIn h = counters (pairAt (h .state) channelAt) (pairAt (h .state) transferAt) (pairAt (h .state) fuserAt) (pairAt (h .state) stackerAt)
+countersIn h = countersAt (h .state)
 
 -- The state's bytes except those of the sense.
 abbrev pub butSense : Held → List ℕ
