@@ -104,12 +104,14 @@ extern "C" {
 
 /* Sizes of the lent buffers; a buffer of another size is refused with TRESTLEPIP_BAD_STORE. docs/STATE.md has the layout of the state. */
 #define TRESTLEPIP_STATE_BYTES 192
-#define TRESTLEPIP_PAGE_BYTES 26928
+#define TRESTLEPIP_PAGE_BYTES 53856
 #define TRESTLEPIP_LEGEND_BYTES 8192
 #define TRESTLEPIP_TABLE_BYTES 1024
 
-/* A line has this many cells, and a composed copy one line for each printable line of the form, so that the size of a page serves any. */
+/* A line has so many cells of so many bytes, and a composed copy one line for each printable line of the form: the size of a page serves any copy. */
 #define TRESTLEPIP_LINE_CELLS 204
+#define TRESTLEPIP_CELL_BYTES 2
+#define TRESTLEPIP_LINE_BYTES (TRESTLEPIP_LINE_CELLS * TRESTLEPIP_CELL_BYTES)
 
 /* Sense's reply; a shorter reply buffer is refused with TRESTLEPIP_TOO_SHORT. */
 #define TRESTLEPIP_SENSE_BYTES 24
@@ -257,7 +259,14 @@ enum trestlepip_sense_3 {
 };
 enum trestlepip_sense_places { TRESTLEPIP_SENSE_COUNT_HIGH = 22, TRESTLEPIP_SENSE_COUNT_LOW = 23 };
 
-/* A cell of a page or a copy is a code: two bits of module, and six of location. These locations are the blank and the underscore of every module. */
+/*
+ * A cell of a page or a copy is two bytes: its code, then its rule mark, which is 1 where a rule is to be printed under the character, and else 0. Cell i
+ * of a line, of a page or of a copy, counted from 0, where `cells` is the first byte of that:
+ */
+static inline uint8_t trestlepip_code_at(const uint8_t *cells, size_t i) { return cells[TRESTLEPIP_CELL_BYTES * i]; }
+static inline uint8_t trestlepip_mark_at(const uint8_t *cells, size_t i) { return cells[TRESTLEPIP_CELL_BYTES * i + 1]; }
+
+/* A code is two bits of module, and six of location. These locations are the blank and the underscore of every module. */
 enum trestlepip_locations { TRESTLEPIP_BLANK = 0x00, TRESTLEPIP_UNDERSCORE = 0x2D };
 
 static inline unsigned trestlepip_module(uint8_t code) { return code >> 6; }
@@ -315,8 +324,8 @@ uint64_t trestlepip_command(uint8_t command,
         uint8_t *legends, size_t legends_len, uint8_t *tables, size_t tables_len);
 
 /*
- * Compose: the copy with this index, from 1, of the page that waits, as P lines of 204 cells over the front of `out`. A cell is a code: two bits of
- * module, six of location. Refusals, in this order: 9, 6, 7, 8. Number 7, and no other, ends a loop over the copies.
+ * Compose: the copy with this index, from 1, of the page that waits, as P lines of 204 cells over the front of `out`: P times TRESTLEPIP_LINE_BYTES
+ * bytes. Refusals, in this order: 9, 6, 7, 8. Number 7, and no other, ends a loop over the copies.
  *
  * Beware: the bytes of `out` after the P lines keep what they held. If that was a copy of a page with more lines, its last lines still stand there, and
  * must not be printed with this one. Set `out` to 00 before each call, or take trestlepip_printable_lines(state) lines from it and no more.
