@@ -1,5 +1,5 @@
 -- Document 01, "Copies and legends": copy modification, stored legends, and the composed copy. Every definition here is of that section, except where it
--- names T-01 of document 02.
+-- names T-01 or T-03 of document 02.
 use Prim.Native.Nat.{ℕ, zero, suc, _+_, _*_, _-_, _/_, _%_}
 use mathlib.Core.Bool.{Bool, false, cond, not, _&&_, _||_}
 use mathlib.Core.Option.{Option}
@@ -12,6 +12,8 @@ use Rattle.numbers.specs.declared.Checked.{Checked}
 use Rattle.numbers.specs.declared.Checked.the-variants.{Sound, Faulty}
 use Rattle.numbers.specs.Numbers.{isSound}
 use Rattle.numbers.specs.Sizes.{lineWidth, lineBytes, legendSize}
+use Rattle.line.specs.declared.Cell.{Cell}
+use Rattle.line.specs.Cells.{unruled, stored, cellsIn}
 
 -- A segment, in the order of its six bytes, then its text, which has as many bytes as the segment has positions.
 pub record Segment : Type 0 where
@@ -108,11 +110,11 @@ covers g number line position =
     && among (g .firstLine) (g .lines) line
     && among (g .firstPosition) (g .positions) position
 
--- The cell at a place of a copy: the text of the last segment that covers it, be it a blank (house), or the page's cell c.
-unfoldable pub shown : List Segment → ℕ → ℕ → ℕ → ℕ → ℕ
+-- The cell at a place of a copy: the text of the last segment that covers it, be it a blank (house), without a mark (T-03), or the page's cell c.
+unfoldable pub shown : List Segment → ℕ → ℕ → ℕ → Cell → Cell
 shown [] number line position c = c
 shown (g ∷ gs) number line position c =
-    shown gs number line position (cond (covers g number line position) (getD (g .text) (position - g .firstPosition) 0) c)
+    shown gs number line position (cond (covers g number line position) (unruled (getD (g .text) (position - g .firstPosition) 0)) c)
 
 -- The cells of a copy; i counts the page's cells from 0, and lines and positions count from 1.
 abbrev pub lineOf : ℕ → ℕ
@@ -121,10 +123,10 @@ lineOf i = i / lineWidth + 1
 abbrev pub positionOf : ℕ → ℕ
 positionOf i = i % lineWidth + 1
 
-unfoldable pub copyFrom : List Segment → ℕ → ℕ → List ℕ → List ℕ
+unfoldable pub copyFrom : List Segment → ℕ → ℕ → List Cell → List Cell
 copyFrom gs number i [] = []
 copyFrom gs number i (c ∷ cs) = shown gs number (lineOf i) (positionOf i) c ∷ copyFrom gs number (suc i) cs
 
 -- The composed copy with this number: the cells of the page's P lines.
 unfoldable pub composed : List ℕ → List ℕ → ℕ → ℕ → List ℕ
-composed page legends P number = copyFrom (map segmentOf (storedSegments legends)) number 0 (take (lineBytes * P) page)
+composed page legends P number = stored (copyFrom (map segmentOf (storedSegments legends)) number 0 (cellsIn (take (lineBytes * P) page)))

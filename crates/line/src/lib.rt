@@ -1,4 +1,6 @@
-// Document 01, "Writing a line".
+// Document 01, "Writing a line"; T-03's cells.
+pub mod cells;
+pub mod marks;
 mod merge;
 pub mod tables;
 pub mod translate;
@@ -9,8 +11,14 @@ ghost use mathlib.Core.List.{List, _++_};
 ghost use Prim.Native.Nat.{ℕ, _+_, _≤_};
 ghost use lib.ListN.{length};
 ghost use Rattle.numbers.specs.Sizes.{lineWidth, pageLines, pageSize, slotSize, tableSize};
-ghost use Rattle.line.specs.Line.{serving, unprintableAt, told, lineCells, lineAt, pageWritten};
+ghost use Rattle.line.specs.Line.{serving, unprintableAt, told, lineCodes, lineAt, pageWritten};
 ghost use Rattle.line.specs.Line.{lineCauses, orUnmatched, causeByte};
+
+// A stored cell: its code, and its rule mark, 0 or 1.
+pub struct Cell {
+    pub code: u8,
+    pub mark: u8,
+}
 
 // The four table slots: which are loaded, and which is selected. Their bytes are a lent store.
 pub struct Slots {
@@ -67,23 +75,23 @@ impl Causes {
     };
 }
 
-// All cells of a line: the record's, and the stand-in after them. Tells the unprintable positions of the record.
-fn make_line(cells: &mut [u8], sent: &[u8], pitches: [u8; 4], table: &[u8]) -> Unprintables
-    requires { ⌜ length (now cells) ≡ lineWidth ⌝ }
+// The codes of a whole line: the record's, and the stand-in after them. Tells the unprintable positions of the record.
+fn make_line(codes: &mut [u8], sent: &[u8], pitches: [u8; 4], table: &[u8]) -> Unprintables
+    requires { ⌜ length (now codes) ≡ lineWidth ⌝ }
     requires { ⌜ length (now sent) ≤ lineWidth ⌝ }
     requires { ⌜ length (now table) ≡ slotSize ⌝ }
-    ensures cells { λ _. ⌜ now (cells .exit) ≡ lineCells pitches (now (table .entry)) (now (sent .entry)) ⌝ }
+    ensures codes { λ _. ⌜ now (codes .exit) ≡ lineCodes pitches (now (table .entry)) (now (sent .entry)) ⌝ }
     ensures found { λ r. ⌜ r ≡ told (unprintableAt pitches (now (table .entry)) (now (sent .entry))) ⌝ }
 {
     let n = sent.len();
-    seq::fill(cells, translate::stand_in(pitches, table));
-    if translate::codes(&mut cells[0..n], sent, pitches, table) {
-        return translate::mend(&mut cells[0..n], pitches, table);
+    seq::fill(codes, translate::stand_in(pitches, table));
+    if translate::codes(&mut codes[0..n], sent, pitches, table) {
+        return translate::mend(&mut codes[0..n], pitches, table);
     }
     Unprintables::NONE
 }
 
-// Writes the record on a line of the page, counted from 1. A line that was written before, `later`, has its new cells made aside and merged.
+// Writes the record on a line of the page, counted from 1; `later`, if that was written before. The line's codes are made aside.
 pub fn write_line(
     page: &mut [u8],
     line: u8,
@@ -100,30 +108,21 @@ pub fn write_line(
     requires { ⌜ slots .selected ≤ 3 ⌝ }
     requires { ⌜ length (now tables) ≡ tableSize ⌝ }
     ensures page { λ _. ⌜ now (page .exit)
-        ≡ pageWritten later line (lineCells pitches (serving slots (now (tables .entry))) (now (sent .entry))) (now (page .entry)) ⌝ }
+        ≡ pageWritten later line (lineCodes pitches (serving slots (now (tables .entry))) (now (sent .entry))) (now (page .entry)) ⌝ }
     ensures causes { λ r. ⌜ r ≡ lineCauses pitches slots (now (tables .entry)) later (lineAt line (now (page .entry))) (now (sent .entry)) ⌝ }
 {
     let at = Stores::LINE_BYTES * (seq::wide(line) - 1);
     let end = at + Stores::LINE_BYTES;
     let table = tables::serving(slots, tables);
     let unloaded = !tables::is_loaded(slots);
-    if later {
-        let mut cells = [0u8; Stores::LINE_CELLS];
-        let unprintables = make_line(&mut cells, sent, pitches, table);
-        let collision = merge::merge(&mut page[at..end], &cells);
-        return Causes {
-            unprintables: unprintables,
-            unloaded: unloaded,
-            unmatched: false,
-            collision: collision,
-        };
-    }
-    let unprintables = make_line(&mut page[at..end], sent, pitches, table);
+    let mut codes = [0u8; Stores::LINE_CELLS];
+    let unprintables = make_line(&mut codes, sent, pitches, table);
+    let collision = merge::put(&mut page[at..end], later, &codes);
     Causes {
         unprintables: unprintables,
         unloaded: unloaded,
         unmatched: false,
-        collision: false,
+        collision: collision,
     }
 }
 

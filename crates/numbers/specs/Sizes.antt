@@ -1,12 +1,15 @@
 -- Document 01, "Calls": the sizes of the lent stores, and of what is put into them and replied. Each stands here alone, and all else names it.
 use Prim.Native.Nat.{ℕ, _*_}
 
--- The page store: 132 lines of 204 cells, each cell a byte.
+-- The page store: 132 lines of 204 cells. A cell is two bytes, its code and its rule mark (T-03).
+abbrev pub cellBytes : ℕ
+cellBytes = 2
+
 abbrev pub lineWidth : ℕ
 lineWidth = 204
 
 abbrev pub lineBytes : ℕ
-lineBytes = lineWidth
+lineBytes = cellBytes * lineWidth
 
 abbrev pub pageLines : ℕ
 pageLines = 132

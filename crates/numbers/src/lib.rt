@@ -6,10 +6,12 @@ ghost use Rattle.numbers.specs.Numbers.{sense3, senseAfter, rowWith, row
 pub struct Stores {}
 
 impl Stores {
-    // A line has 204 cells, each a byte.
+    // A cell is two bytes, its code and its rule mark.
+    pub const CELL_BYTES: usize = 2;
+
     pub const LINE_CELLS: usize = 204;
 
-    pub const LINE_BYTES: usize = Stores::LINE_CELLS;
+    pub const LINE_BYTES: usize = Stores::CELL_BYTES * Stores::LINE_CELLS;
 
     pub const PAGE_BYTES: usize = 132 * Stores::LINE_BYTES;
 
