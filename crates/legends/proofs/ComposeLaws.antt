@@ -5,26 +5,30 @@ use mathlib.Core.Bool.{Bool, true, false, cond, _&&_, false≢true}
 use mathlib.Core.List.{List, [], _∷_, _++_, map}
 use native.Mathlib.Nat.{zero-add, add-zero, le-of-suc-le-suc, not-suc-le-zero}
 use native.Mathlib.Omega.{arith}
-use lib.ListN.{length, getD, take, drop, length-append, length-take, length-drop, List·getD-append}
+use lib.ListN.{length, getD, take, drop, length-map, length-append, length-take, length-drop, List·getD-append}
 use lib.Seq.{drop-at, take-add, take-take, drop-drop, getD-take, getD-drop, getD-append-add, length-take-le, ext-getD}
 use lib.Dec.{leb, ltb, lit<}
 use borrow.Author.Tests.{leb-true, ltb-true, le-leb, lt-ltb, ltb-false}
 use Rattle.seq.proofs.Laws.{and-left, and-right, and-both}
-use Rattle.numbers.specs.Sizes.{lineWidth, lineBytes}
+use Rattle.seq.proofs.Loops.{getD-map}
+use Rattle.numbers.specs.Sizes.{cellBytes, lineWidth, lineBytes}
 use Rattle.numbers.specs.Numbers.{isSound}
+use Rattle.line.specs.declared.Cell.{Cell}
+use Rattle.line.specs.Cells.{unruled, stored, cellsIn}
+use Rattle.line.proofs.StoredLaws.{length-cells, cells-put}
 use Rattle.legends.specs.Legends.{headSize, Segment, segmentOf, segmentLength, storedSegments, legendsOk}
 use Rattle.legends.specs.Legends.{among, covers, shown, lineOf, positionOf, copyFrom}
 use Rattle.legends.proofs.SegmentLaws.{found, rest, SoundFirst, sound-first, byte-set, ends-in-line, end-at, rest-at, stored-next, cut-end}
 use Rattle.legends.proofs.StoredLaws.{first-set, ok-sound, ok-front}
 
 -- A copy as a list: its length, its cells; no segment leaves the page, and segments show one after the other.
-pub length-copyFrom : (gs : List Segment) (number i : ℕ) (cs : List ℕ) → length (copyFrom gs number i cs) ≡ length cs
+pub length-copyFrom : (gs : List Segment) (number i : ℕ) (cs : List Cell) → length (copyFrom gs number i cs) ≡ length cs
 unfolding copyFrom
 length-copyFrom gs number i [] = refl
 length-copyFrom gs number i (c ∷ cs) = ap suc (length-copyFrom gs number (suc i) cs)
 
-getD-copyFrom : (gs : List Segment) (number i k : ℕ) (cs : List ℕ) → k < length cs
-    → getD (copyFrom gs number i cs) k 0 ≡ shown gs number (lineOf (i + k)) (positionOf (i + k)) (getD cs k 0)
+getD-copyFrom : (gs : List Segment) (number i k : ℕ) (cs : List Cell) → k < length cs
+    → getD (copyFrom gs number i cs) k (unruled 0) ≡ shown gs number (lineOf (i + k)) (positionOf (i + k)) (getD cs k (unruled 0))
 unfolding copyFrom
 getD-copyFrom gs number i k [] h = absurd (not-suc-le-zero h)
 getD-copyFrom gs number i zero (c ∷ cs) h = rw (add-zero i) refl
@@ -32,12 +36,12 @@ getD-copyFrom gs number i (suc k) (c ∷ cs) h =
     let next : suc i + k ≡ i + suc k = omega arith in
     rw (← next) (getD-copyFrom gs number (suc i) k cs (le-of-suc-le-suc h))
 
-copy-none : (number i : ℕ) (cs : List ℕ) → copyFrom [] number i cs ≡ cs
+copy-none : (number i : ℕ) (cs : List Cell) → copyFrom [] number i cs ≡ cs
 unfolding copyFrom shown
 copy-none number i [] = refl
-copy-none number i (c ∷ cs) = ap (λ (l : List ℕ). c ∷ l) (copy-none number (suc i) cs)
+copy-none number i (c ∷ cs) = ap (λ (l : List Cell). c ∷ l) (copy-none number (suc i) cs)
 
-copy-cons : (g : Segment) (gs : List Segment) (number i : ℕ) (cs : List ℕ)
+copy-cons : (g : Segment) (gs : List Segment) (number i : ℕ) (cs : List Cell)
     → copyFrom (g ∷ gs) number i cs ≡ copyFrom gs number i (copyFrom (g ∷ []) number i cs)
 unfolding copyFrom shown
 copy-cons g gs number i [] = refl
@@ -86,25 +90,25 @@ not-covered g number line position none = same-test _ false (λ e. absurd (none 
 
 -- What one segment makes of cell k.
 module _ (g : Segment) (number : ℕ) where
-  abbrev over : ℕ → ℕ → ℕ
-  over k c = cond (covers g number (lineOf k) (positionOf k)) (getD (g .text) (positionOf k - g .firstPosition) 0) c
+  abbrev over : ℕ → Cell → Cell
+  over k c = cond (covers g number (lineOf k) (positionOf k)) (unruled (getD (g .text) (positionOf k - g .firstPosition) 0)) c
 
-  getD-over : (k : ℕ) (cs : List ℕ) → k < length cs → getD (copyFrom (g ∷ []) number 0 cs) k 0 ≡ over k (getD cs k 0)
+  getD-over : (k : ℕ) (cs : List Cell) → k < length cs → getD (copyFrom (g ∷ []) number 0 cs) k (unruled 0) ≡ over k (getD cs k (unruled 0))
   unfolding shown
   getD-over k cs h = getD-copyFrom (g ∷ []) number 0 k cs h ∙ rw (zero-add k) refl
 
-  copy-is : (old new : List ℕ) → length new ≡ length old → ((k : ℕ) → k < length old → getD new k 0 ≡ over k (getD old k 0))
+  copy-is : (old new : List Cell) → length new ≡ length old → ((k : ℕ) → k < length old → getD new k (unruled 0) ≡ over k (getD old k (unruled 0)))
       → new ≡ copyFrom (g ∷ []) number 0 old
   copy-is old new l f =
-      ext-getD 0 new (copyFrom (g ∷ []) number 0 old) (l ∙ sym (length-copyFrom (g ∷ []) number 0 old))
+      ext-getD (unruled 0) new (copyFrom (g ∷ []) number 0 old) (l ∙ sym (length-copyFrom (g ∷ []) number 0 old))
       (λ k h. let h′ : k < length old = omega (arith, l, h) in f k h′ ∙ sym (getD-over k old h′))
 
   -- a segment that covers no cell leaves all
-  copy-same : (old : List ℕ) → ((k : ℕ) → k < length old → covers g number (lineOf k) (positionOf k) ≡ false) → old ≡ copyFrom (g ∷ []) number 0 old
+  copy-same : (old : List Cell) → ((k : ℕ) → k < length old → covers g number (lineOf k) (positionOf k) ≡ false) → old ≡ copyFrom (g ∷ []) number 0 old
   copy-same old f = copy-is old old refl (λ k h. rw (f k h) refl)
 
 -- Two segments of one text and first position that cover the same cells show the same.
-copy-alike : (g h : Segment) (n m : ℕ) (old : List ℕ) → g .text ≡ h .text → g .firstPosition ≡ h .firstPosition
+copy-alike : (g h : Segment) (n m : ℕ) (old : List Cell) → g .text ≡ h .text → g .firstPosition ≡ h .firstPosition
     → ((k : ℕ) → k < length old → covers g n (lineOf k) (positionOf k) ≡ covers h m (lineOf k) (positionOf k))
     → copyFrom (g ∷ []) n 0 old ≡ copyFrom (h ∷ []) m 0 old
 copy-alike g h n m old t p f =
@@ -112,8 +116,8 @@ copy-alike g h n m old t p f =
     (λ k l. getD-over g n k old l ∙ rw (f k l, t, p) refl)
 
 -- A list with ys in the place of what stood at `at`: before, in and after it.
-module _ (at : ℕ) (ys out : List ℕ) (room : at + length ys ≤ length out) where
-  abbrev put : List ℕ
+module _ (at : ℕ) (ys out : List Cell) (room : at + length ys ≤ length out) where
+  abbrev put : List Cell
   put = take at out ++ (ys ++ drop (length ys) (drop at out))
 
   front : length (take at out) ≡ at
@@ -122,65 +126,71 @@ module _ (at : ℕ) (ys out : List ℕ) (room : at + length ys ≤ length out) w
   length-put : length put ≡ length out
   length-put = simp (length-append, length-take, length-drop) (omega (arith, room))
 
-  put-before : (k : ℕ) → k < at → getD put k 0 ≡ getD out k 0
-  put-before k h = List·getD-append (take at out) _ 0 k (omega (arith, front, h)) ∙ getD-take at out k 0 h
+  put-before : (k : ℕ) → k < at → getD put k (unruled 0) ≡ getD out k (unruled 0)
+  put-before k h = List·getD-append (take at out) _ (unruled 0) k (omega (arith, front, h)) ∙ getD-take at out k (unruled 0) h
 
-  put-rest : (k : ℕ) → at ≤ k → getD put k 0 ≡ getD (ys ++ drop (length ys) (drop at out)) (k - at) 0
+  put-rest : (k : ℕ) → at ≤ k → getD put k (unruled 0) ≡ getD (ys ++ drop (length ys) (drop at out)) (k - at) (unruled 0)
   put-rest k h =
       let e : k ≡ length (take at out) + (k - at) = omega (arith, front, h) in
-      ap (λ (j : ℕ). getD put j 0) e ∙ getD-append-add (take at out) _ (k - at) 0
+      ap (λ (j : ℕ). getD put j (unruled 0)) e ∙ getD-append-add (take at out) _ (k - at) (unruled 0)
 
-  put-in : (k : ℕ) → at ≤ k → k < at + length ys → getD put k 0 ≡ getD ys (k - at) 0
-  put-in k h l = put-rest k h ∙ List·getD-append ys _ 0 (k - at) (omega arith)
+  put-in : (k : ℕ) → at ≤ k → k < at + length ys → getD put k (unruled 0) ≡ getD ys (k - at) (unruled 0)
+  put-in k h l = put-rest k h ∙ List·getD-append ys _ (unruled 0) (k - at) (omega arith)
 
-  put-after : (k : ℕ) → at + length ys ≤ k → getD put k 0 ≡ getD out k 0
+  put-after : (k : ℕ) → at + length ys ≤ k → getD put k (unruled 0) ≡ getD out k (unruled 0)
   put-after k h =
       let e : k - at ≡ length ys + (k - at - length ys) = omega arith in
       let j : at + (length ys + (k - at - length ys)) ≡ k = omega arith in
-      put-rest k (omega arith) ∙ ap (λ (i : ℕ). getD (ys ++ drop (length ys) (drop at out)) i 0) e ∙ getD-append-add ys _ (k - at - length ys) 0
-      ∙ getD-drop (length ys) (drop at out) (k - at - length ys) 0 ∙ getD-drop at out (length ys + (k - at - length ys)) 0
-      ∙ ap (λ (i : ℕ). getD out i 0) j
+      put-rest k (omega arith) ∙ ap (λ (i : ℕ). getD (ys ++ drop (length ys) (drop at out)) i (unruled 0)) e ∙ getD-append-add ys _ (k - at - length ys) (unruled 0)
+      ∙ getD-drop (length ys) (drop at out) (k - at - length ys) (unruled 0) ∙ getD-drop at out (length ys + (k - at - length ys)) (unruled 0)
+      ∙ ap (λ (i : ℕ). getD out i (unruled 0)) j
 
 -- A text in several rows, as a segment for copy 0 alone: in none, and in a row more.
 abbrev pub textRows : List ℕ → ℕ → ℕ → ℕ → Segment
 textRows text row place past =
     record { firstCopy = 0; copies = 1; firstLine = row + 1; lines = past - row; firstPosition = place + 1; positions = length text; text = text }
 
-module _ (text old : List ℕ) (row place : ℕ) where
+module _ (text : List ℕ) (old : List Cell) (row place : ℕ) where
   abbrev rows : ℕ → Segment
   rows = textRows text row place
 
   pub rows-none : (past : ℕ) → past ≤ row → old ≡ copyFrom (rows past ∷ []) 0 0 old
   rows-none past h = copy-same (rows past) 0 old (λ k l. not-covered (rows past) 0 _ _ (λ c. omega (arith, h, c)))
 
-  module _ (i : ℕ) (out : List ℕ) (later : row ≤ i) (narrow : place + length text ≤ lineWidth) (room : (i + 1) * lineBytes ≤ length old)
+  module _ (i : ℕ) (out : List Cell) (later : row ≤ i) (narrow : place + length text ≤ lineWidth) (room : (i + 1) * lineWidth ≤ length old)
       (e : out ≡ copyFrom (rows i ∷ []) 0 0 old) where
     abbrev at : ℕ
-    at = i * lineBytes + place
+    at = i * lineWidth + place
+
+    abbrev cells : List Cell
+    cells = map unruled text
+
+    as-long : length cells ≡ length text
+    as-long = length-map text unruled
 
     same-size : length out ≡ length old
     same-size = ap length e ∙ length-copyFrom (rows i ∷ []) 0 0 old
 
-    fits-row : at + length text ≤ length out
-    fits-row = omega (arith, same-size, narrow, room)
+    fits-row : at + length cells ≤ length out
+    fits-row = omega (arith, as-long, same-size, narrow, room)
 
     -- outside the text of this row, the row more covers what was covered
     outside : (k : ℕ) → k < length old → (Covered (rows (i + 1)) 0 (lineOf k) (positionOf k) → lineOf k ≤ i)
-        → getD out k 0 ≡ over (rows (i + 1)) 0 k (getD old k 0)
+        → getD out k (unruled 0) ≡ over (rows (i + 1)) 0 k (getD old k (unruled 0))
     outside k h f =
         let t = covers-same (rows i) (rows (i + 1)) 0 0 (lineOf k) (positionOf k) (λ c. (c .0, ((c .1 .0 .0, omega (arith, c)), c .1 .1)))
         (λ c. (c .0, ((c .1 .0 .0, omega (arith, c, f c)), c .1 .1))) in
-        ap (λ (l : List ℕ). getD l k 0) e ∙ getD-over (rows i) 0 k old h ∙ rw t refl
+        ap (λ (l : List Cell). getD l k (unruled 0)) e ∙ getD-over (rows i) 0 k old h ∙ rw t refl
 
-    inside : (k : ℕ) → at ≤ k → k < at + length text → getD text (k - at) 0 ≡ over (rows (i + 1)) 0 k (getD old k 0)
+    inside : (k : ℕ) → at ≤ k → k < at + length text → getD cells (k - at) (unruled 0) ≡ over (rows (i + 1)) 0 k (getD old k (unruled 0))
     inside k h l =
         let t = covers-in (rows (i + 1)) 0 (lineOf k) (positionOf k)
         ((omega arith, omega arith), ((omega arith, omega arith), (omega arith, omega arith))) in
         let p : positionOf k - (place + 1) ≡ k - at = omega arith in
-        rw (t, p) refl
+        rw (t, p) (getD-map unruled 0 (unruled 0) (k - at) text (omega arith))
 
     abbrev Right : ℕ → Type 0
-    Right k = getD (put at text out fits-row) k 0 ≡ over (rows (i + 1)) 0 k (getD old k 0)
+    Right k = getD (put at cells out fits-row) k (unruled 0) ≡ over (rows (i + 1)) 0 k (getD old k (unruled 0))
 
     each : (k : ℕ) → k < length old → Right k
     each k h = go (ltb k at) (ltb k (at + length text)) refl refl
@@ -188,27 +198,41 @@ module _ (text old : List ℕ) (row place : ℕ) where
         go : (a b : Bool) → ltb k at ≡ a → ltb k (at + length text) ≡ b → Right k
         go true b u v =
             let l : k < at = ltb-true k at u in
-            put-before at text out fits-row k l ∙ outside k h (λ c. omega (arith, c))
+            put-before at cells out fits-row k l ∙ outside k h (λ c. omega (arith, c))
         go false true u v =
             let l : at ≤ k = ltb-false k at u in
             let m : k < at + length text = ltb-true k (at + length text) v in
-            put-in at text out fits-row k l m ∙ inside k l m
+            put-in at cells out fits-row k l (rw as-long m) ∙ inside k l m
         go false false u v =
             let m : at + length text ≤ k = ltb-false k (at + length text) v in
-            put-after at text out fits-row k m ∙ outside k h (λ c. omega (arith, c))
+            put-after at cells out fits-row k (rw as-long m) ∙ outside k h (λ c. omega (arith, c))
 
-    pub rows-more : take at out ++ (text ++ drop (length text) (drop at out)) ≡ copyFrom (rows (i + 1) ∷ []) 0 0 old
-    rows-more = copy-is (rows (i + 1)) 0 old (put at text out fits-row) (length-put at text out fits-row ∙ same-size) each
+    pub rows-more : take at out ++ (cells ++ drop (length cells) (drop at out)) ≡ copyFrom (rows (i + 1) ∷ []) 0 0 old
+    rows-more = copy-is (rows (i + 1)) 0 old (put at cells out fits-row) (length-put at cells out fits-row ∙ same-size) each
+
+-- The same in bytes: the text's cells put over the row's.
+pub rows-put : (text old out new : List ℕ) (row place i n : ℕ) → row ≤ i → place + length text ≤ lineWidth → (i + 1) * lineBytes ≤ length old
+    → length out ≡ length old → cellsIn out ≡ copyFrom (textRows text row place i ∷ []) 0 0 (cellsIn old) → new ≡ stored (map unruled text)
+    → n ≡ cellBytes * length text
+    → (let at = cellBytes * (i * lineWidth + place) in
+    cellsIn (take at out ++ (new ++ drop n (drop at out))) ≡ copyFrom (textRows text row place (i + 1) ∷ []) 0 0 (cellsIn old))
+rows-put text old out new row place i n later narrow room size e w long =
+    let at = i * lineWidth + place in
+    let wide : n ≡ cellBytes * length (map unruled text) = long ∙ ap (λ (m : ℕ). cellBytes * m) (sym (length-map text unruled)) in
+    let cells : (i + 1) * lineWidth ≤ length (cellsIn old) = rw (length-cells old) (omega arith) in
+    (λ j. cellsIn (take (cellBytes * at) out ++ (w j ++ drop (wide j) (drop (cellBytes * at) out))))
+    ∙ cells-put at (map unruled text) out (omega arith)
+    ∙ rows-more text (cellsIn old) row place i (cellsIn out) later narrow cells e
 
 -- A segment of other copies leaves all; of this copy, its rows as far as there are lines show it.
-other-copy : (g : Segment) (number : ℕ) (old : List ℕ) → (Among (g .firstCopy) (g .copies) number → ⊥) → old ≡ copyFrom (g ∷ []) number 0 old
+other-copy : (g : Segment) (number : ℕ) (old : List Cell) → (Among (g .firstCopy) (g .copies) number → ⊥) → old ≡ copyFrom (g ∷ []) number 0 old
 other-copy g number old none = copy-same g number old (λ k h. not-covered g number _ _ (λ c. none (c .0)))
 
 abbrev rowsOf : Segment → ℕ → Segment
 rowsOf g lines = textRows (g .text) (g .firstLine - 1) (g .firstPosition - 1) (min (g .firstLine - 1 + g .lines) lines)
 
-this-copy : (g : Segment) (number lines : ℕ) (old : List ℕ) → Among (g .firstCopy) (g .copies) number → 1 ≤ g .firstLine → 1 ≤ g .firstPosition
-    → length (g .text) ≡ g .positions → length old ≡ lineBytes * lines → copyFrom (rowsOf g lines ∷ []) 0 0 old ≡ copyFrom (g ∷ []) number 0 old
+this-copy : (g : Segment) (number lines : ℕ) (old : List Cell) → Among (g .firstCopy) (g .copies) number → 1 ≤ g .firstLine → 1 ≤ g .firstPosition
+    → length (g .text) ≡ g .positions → length old ≡ lineWidth * lines → copyFrom (rowsOf g lines ∷ []) 0 0 old ≡ copyFrom (g ∷ []) number 0 old
 this-copy g number lines old a line position size room =
     copy-alike (rowsOf g lines) g 0 number old refl (omega arith)
     (λ k m. covers-same (rowsOf g lines) g 0 number (lineOf k) (positionOf k)
@@ -242,12 +266,12 @@ text-at l at = rw (getD-drop at l 5 0, drop-drop headSize at l) refl
 pub length-text : (l : List ℕ) (at : ℕ) → Placed l at → length (segmentOf (drop at l) .text) ≡ getD l (at + 5) 0
 length-text l at w = rw (← text-at l at) (simp (length-take, length-drop) (omega (arith, w)))
 
-module _ (l : List ℕ) (at number : ℕ) (old : List ℕ) where
+module _ (l : List ℕ) (at number : ℕ) (old : List Cell) where
   pub other-segment : (Among (getD l at 0) (getD l (at + 1) 0) number → ⊥) → old ≡ copyFrom (segmentOf (drop at l) ∷ []) number 0 old
   unfolding segmentOf
   other-segment none = other-copy (segmentOf (drop at l)) number old (rw (first-at l at, getD-drop at l 1 0) none)
 
-  pub this-segment : (lines : ℕ) → Placed l at → Among (getD l at 0) (getD l (at + 1) 0) number → length old ≡ lineBytes * lines
+  pub this-segment : (lines : ℕ) → Placed l at → Among (getD l at 0) (getD l (at + 1) 0) number → length old ≡ lineWidth * lines
       → (let row = getD l (at + 2) 0 - 1 in
       copyFrom (textRows (segmentOf (drop at l) .text) row (getD l (at + 4) 0 - 1) (min (row + getD l (at + 3) 0) lines) ∷ []) 0 0 old
       ≡ copyFrom (segmentOf (drop at l) ∷ []) number 0 old)
@@ -282,19 +306,19 @@ segment-front s h =
     refl
 
 -- The walk over stored legends: from `at` on they are such as a printer can have, and lead from `out` to the goal.
-unfoldable pub Left : List ℕ → ℕ → ℕ → List ℕ → List ℕ → Type 0
+unfoldable pub Left : List ℕ → ℕ → ℕ → List Cell → List Cell → Type 0
 Left l number at out goal = (legendsOk (drop at l) ≡ true) × (copyFrom (map segmentOf (storedSegments (drop at l))) number 0 out ≡ goal)
 
-pub left-start : (l : List ℕ) (number : ℕ) (out : List ℕ) → legendsOk l ≡ true
+pub left-start : (l : List ℕ) (number : ℕ) (out : List Cell) → legendsOk l ≡ true
     → Left l number 0 out (copyFrom (map segmentOf (storedSegments l)) number 0 out)
 unfolding Left
 left-start l number out e = (e, refl)
 
-pub left-end : (l : List ℕ) (number at : ℕ) (out goal : List ℕ) → getD l at 0 ≡ 0 → Left l number at out goal → out ≡ goal
+pub left-end : (l : List ℕ) (number at : ℕ) (out goal : List Cell) → getD l at 0 ≡ 0 → Left l number at out goal → out ≡ goal
 unfolding Left storedSegments
 left-end l number at out goal z (ok, e) = sym (copy-none number 0 out) ∙ (rw (cut-end (length (drop at l)) (drop at l) (first-at l at ∙ z)) at e)
 
-module _ (l : List ℕ) (number at : ℕ) (out goal : List ℕ) (some : getD l at 0 ≡ 0 → ⊥) (left : Left l number at out goal) where
+module _ (l : List ℕ) (number at : ℕ) (out goal : List Cell) (some : getD l at 0 ≡ 0 → ⊥) (left : Left l number at out goal) where
   abbrev here : List ℕ
   here = drop at l
 

@@ -15,6 +15,8 @@ use Rattle.numbers.specs.declared.Cause.the-variants.{SegmentEnds, SegmentField
 use Rattle.numbers.specs.declared.Checked.the-variants.{Sound, Faulty}
 use Rattle.numbers.specs.Numbers.{isSound}
 use Rattle.numbers.proofs.Laws.{faulty}
+use Rattle.line.specs.declared.Cell.{Cell}
+use Rattle.line.specs.Cells.{unruled}
 use Rattle.legends.proofs.SegmentLaws.{judged, SoundFirst, rest, tested, empty-or-sound, byte-set, cut-none, cut-more, cut-take, cut-end}
 use Rattle.legends.specs.Legends.{headSize, segmentLength, badHead, segmentTests, cut, segments, legendCheck, retext, storedLegends, storedSegments, legendsOk, noLegends, Segment, covers, shown}
 
@@ -179,20 +181,20 @@ pub legend-table : map legendCheck
 unfolding legendCheck segments cut badHead flatten firstOr when
 legend-table = refl
 
--- The last segment that covers a cell shows there: a last one that covers it shows its text, one that does not leaves what the
+-- The last segment that covers a cell shows there: a last one that covers it shows its text without a mark, one that does not leaves what the
 -- segments before it show, and with none the page's cell is left.
 module _ (number line position : ℕ) where
-  shown-more : (gs : List Segment) (g : Segment) (c : ℕ)
+  shown-more : (gs : List Segment) (g : Segment) (c : Cell)
       → shown (gs ++ (g ∷ [])) number line position c
-      ≡ cond (covers g number line position) (getD (g .text) (position - g .firstPosition) 0) (shown gs number line position c)
+      ≡ cond (covers g number line position) (unruled (getD (g .text) (position - g .firstPosition) 0)) (shown gs number line position c)
   unfolding shown
   shown-more [] g c = refl
   shown-more (h ∷ gs) g c = shown-more gs g _
 
-  pub last-covers : (gs : List Segment) (g : Segment) (c : ℕ) → covers g number line position ≡ true
-      → shown (gs ++ (g ∷ [])) number line position c ≡ getD (g .text) (position - g .firstPosition) 0
+  pub last-covers : (gs : List Segment) (g : Segment) (c : Cell) → covers g number line position ≡ true
+      → shown (gs ++ (g ∷ [])) number line position c ≡ unruled (getD (g .text) (position - g .firstPosition) 0)
   last-covers gs g c e = shown-more gs g c ∙ rw e
 
-  pub last-leaves : (gs : List Segment) (g : Segment) (c : ℕ) → covers g number line position ≡ false
+  pub last-leaves : (gs : List Segment) (g : Segment) (c : Cell) → covers g number line position ≡ false
       → shown (gs ++ (g ∷ [])) number line position c ≡ shown gs number line position c
   last-leaves gs g c e = shown-more gs g c ∙ rw e

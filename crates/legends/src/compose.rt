@@ -7,7 +7,8 @@ ghost use mathlib.Core.Bool.{true, false};
 ghost use mathlib.Core.List.{[], _∷_, _++_, map};
 ghost use Prim.Native.Nat.{_+_, _*_, _-_, _≤_};
 ghost use lib.ListN.{length, getD, drop};
-ghost use Rattle.numbers.specs.Sizes.{lineWidth, lineBytes};
+ghost use Rattle.numbers.specs.Sizes.{lineWidth, lineBytes, pageLines, pageSize};
+ghost use Rattle.line.specs.Cells.{stored, cellsIn};
 ghost use Rattle.legends.specs.Legends.{headSize, segmentOf, segmentLength, badHead, storedSegments, legendsOk, copyFrom, composed};
 
 // From one slice to another by the front of a block.
@@ -21,13 +22,13 @@ fn copy_by(block: &mut [u8], to: &mut [u8], from: &[u8])
     seq::copy_all(to, &block[0..n]);
 }
 
-// As many as 255 lines, by a local: for all that the compiler knows, two lent slices could overlap. It leaves the local out, and one move remains.
+// As much as a page, by a local: for all that the compiler knows, two lent slices could overlap. It leaves the local out, and one move remains.
 fn move_all(to: &mut [u8], from: &[u8])
     requires { ⌜ length (now to) ≡ length (now from) ⌝ }
-    requires { ⌜ length (now from) ≤ lineBytes * 255 ⌝ }
+    requires { ⌜ length (now from) ≤ pageSize ⌝ }
     ensures { λ _. ⌜ now (to .exit) ≡ now (from .entry) ⌝ }
 {
-    let mut block = [0u8; 255 * Stores::LINE_BYTES];
+    let mut block = [0u8; Stores::PAGE_BYTES];
     copy_by(&mut block, to, from);
 }
 
@@ -45,7 +46,7 @@ pub fn text(legends: &[u8], at: usize) -> &[u8]
 fn paint_rows(out: &mut [u8], text: &[u8], row: usize, end: usize, place: usize)
     requires { ⌜ lineBytes * end ≤ length (now out) ⌝ }
     requires { ⌜ place + length (now text) ≤ lineWidth ⌝ }
-    ensures { λ _. ⌜ now (out .exit) ≡ copyFrom (record {
+    ensures { λ _. ⌜ cellsIn (now (out .exit)) ≡ copyFrom (record {
       firstCopy = 0;
       copies = 1;
       firstLine = row + 1;
@@ -53,14 +54,14 @@ fn paint_rows(out: &mut [u8], text: &[u8], row: usize, end: usize, place: usize)
       firstPosition = place + 1;
       positions = length (now (text .entry));
       text = now (text .entry);
-    } ∷ []) 0 0 (now (out .entry)) ⌝ }
+    } ∷ []) 0 0 (cellsIn (now (out .entry))) ⌝ }
 {
-    let n = text.len();
+    let n = Stores::CELL_BYTES * text.len();
     let mut i = row;
     while i < end {
-        let at = i * Stores::LINE_BYTES + place;
+        let at = Stores::CELL_BYTES * (i * Stores::LINE_CELLS + place);
         let past = at + n;
-        move_all(&mut out[at..past], text);
+        line::cells::set(&mut out[at..past], text);
         i += 1;
     }
 }
@@ -70,7 +71,7 @@ fn paint(out: &mut [u8], legends: &[u8], at: usize, number: usize, lines: usize)
     requires { ⌜ at + segmentLength (drop at (now legends)) ≤ length (now legends) ⌝ }
     requires { ⌜ badHead (drop at (now legends)) ≡ false ⌝ }
     requires { ⌜ length (now out) ≡ lineBytes * lines ⌝ }
-    ensures { λ _. ⌜ now (out .exit) ≡ copyFrom (segmentOf (drop at (now (legends .entry))) ∷ []) number 0 (now (out .entry)) ⌝ }
+    ensures { λ _. ⌜ cellsIn (now (out .exit)) ≡ copyFrom (segmentOf (drop at (now (legends .entry))) ∷ []) number 0 (cellsIn (now (out .entry))) ⌝ }
 {
     let first = seq::wide(legends[at]);
     let copies = seq::wide(legends[at + 1]);
@@ -89,7 +90,8 @@ fn paint(out: &mut [u8], legends: &[u8], at: usize, number: usize, lines: usize)
 fn paint_all(out: &mut [u8], legends: &[u8], number: usize, lines: usize)
     requires { ⌜ legendsOk (now legends) ≡ true ⌝ }
     requires { ⌜ length (now out) ≡ lineBytes * lines ⌝ }
-    ensures { λ _. ⌜ now (out .exit) ≡ copyFrom (map segmentOf (storedSegments (now (legends .entry)))) number 0 (now (out .entry)) ⌝ }
+    ensures { λ _. ⌜ cellsIn (now (out .exit))
+        ≡ copyFrom (map segmentOf (storedSegments (now (legends .entry)))) number 0 (cellsIn (now (out .entry))) ⌝ }
 {
     let mut at = 0;
     while at < legends.len() {
@@ -103,9 +105,11 @@ fn paint_all(out: &mut [u8], legends: &[u8], number: usize, lines: usize)
 
 fn compose_in(out: &mut [u8], page: &[u8], legends: &[u8], number: usize, lines: u8)
     requires { ⌜ legendsOk (now legends) ≡ true ⌝ }
+    requires { ⌜ lines ≤ pageLines ⌝ }
     requires { ⌜ length (now page) ≡ lineBytes * lines ⌝ }
     requires { ⌜ length (now out) ≡ lineBytes * lines ⌝ }
-    ensures { λ _. ⌜ now (out .exit) ≡ copyFrom (map segmentOf (storedSegments (now (legends .entry)))) number 0 (now (page .entry)) ⌝ }
+    ensures { λ _. ⌜ now (out .exit)
+        ≡ stored (copyFrom (map segmentOf (storedSegments (now (legends .entry)))) number 0 (cellsIn (now (page .entry)))) ⌝ }
 {
     move_all(out, page);
     paint_all(out, legends, number, seq::wide(lines));
@@ -114,6 +118,7 @@ fn compose_in(out: &mut [u8], page: &[u8], legends: &[u8], number: usize, lines:
 // The composed copy with this number into the output; bytes after its lines keep their values.
 pub fn compose(out: &mut [u8], page: &[u8], legends: &[u8], number: u16, lines: u8)
     requires { ⌜ legendsOk (now legends) ≡ true ⌝ }
+    requires { ⌜ lines ≤ pageLines ⌝ }
     requires { ⌜ lineBytes * lines ≤ length (now page) ⌝ }
     requires { ⌜ lineBytes * lines ≤ length (now out) ⌝ }
     ensures { λ _. ⌜ now (out .exit)

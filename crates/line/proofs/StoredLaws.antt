@@ -4,6 +4,7 @@ use mathlib.Core.Path.{_≡_, refl, sym, ap, _∙_}
 use mathlib.Core.List.{List, [], _∷_, _++_, map}
 use native.Mathlib.Omega.{arith}
 use lib.ListN.{length, getD, take, drop, set}
+use lib.Seq.{length-take-le}
 use Rattle.seq.proofs.Loops.{filled, filled-more}
 use Rattle.line.specs.declared.Cell.{Cell}
 use Rattle.line.specs.Cells.{unruled, stored, cellsIn}
@@ -82,6 +83,14 @@ stored-cells n [] e = refl
 stored-cells n (c ∷ []) e = absurd (omega (arith, e))
 stored-cells zero (c ∷ m ∷ bs) e = absurd (omega (arith, e))
 stored-cells (suc n) (c ∷ m ∷ bs) e = ap (λ (l : List ℕ). c ∷ m ∷ l) (stored-cells n bs (omega (arith, e)))
+
+-- Cells put over those from cell a on.
+pub cells-put : (a : ℕ) (cs : List Cell) (out : List ℕ) → 2 * a ≤ length out
+    → cellsIn (take (2 * a) out ++ (stored cs ++ drop (2 * length cs) (drop (2 * a) out))) ≡ take a (cellsIn out) ++ (cs ++ drop (length cs) (drop a (cellsIn out)))
+cells-put a cs out h =
+    let rest = cells-drop (length cs) (drop (2 * a) out) ∙ ap (drop (length cs)) (cells-drop a out) in
+    let behind = cells-append (length cs) (stored cs) _ (length-stored cs) ∙ (λ i. cells-stored cs i ++ rest i) in
+    cells-append a (take (2 * a) out) _ (length-take-le (2 * a) out h) ∙ (λ i. cells-take a out i ++ behind i)
 
 -- A turn that writes both bytes of cell i.
 pub cell-more : (i v w : ℕ) (cs : List Cell) (old out : List ℕ) → out ≡ filled (2 * i) (stored cs) old → i < length cs

@@ -3,6 +3,8 @@ use mathlib.Core.Path.{ap, _∙_}
 use native.Mathlib.Omega.{arith}
 use Prim.Native.Nat.{_+_}
 use lib.ListN.{length, getD, drop, length-drop}
+use Rattle.line.specs.Cells.{cellsIn}
+use Rattle.line.proofs.StoredLaws.{length-cells}
 use Rattle.legends.proofs.SegmentLaws.{SoundFirst}
 use Rattle.legends.proofs.ComposeLaws.{Among, Placed, placed, length-text, other-segment, this-segment}
 use borrow.Author.Needs.{needs}
@@ -23,12 +25,12 @@ this c = (search needs, search needs)
 returns : tie.Need-returns
 returns c =
     let a = c .before .before .before .before .before .before .before .args in
-    other-segment (a .legends .now) (a .at) (a .number) (a .out .now) (λ h. omega (arith, h))
+    other-segment (a .legends .now) (a .at) (a .number) (cellsIn (a .out .now)) (λ h. omega (arith, h))
 
 returns-2 : tie.Need-returns-2
 returns-2 c =
     let a = c .before .before .before .before .before .before .before .before .args in
-    other-segment (a .legends .now) (a .at) (a .number) (a .out .now) (λ h. omega (arith, h))
+    other-segment (a .legends .now) (a .at) (a .number) (cellsIn (a .out .now)) (λ h. omega (arith, h))
 
 sub-row : tie.Need-sub-row
 sub-row c = omega (arith, there (c .before .before .before .before .before .before .before .before .before .before))
@@ -61,7 +63,7 @@ returns-3 c =
     let a = start .args in
     let end = w5 .before .before .least .ensures in
     rw (c .before .before .paint-rows .ensures, t .text .ensures, end, w5 .wide5 .ensures .0, w4 .wide4 .ensures .0, w3 .wide3 .ensures .0)
-    (this-segment (a .legends .now) (a .at) (a .number) (a .out .now) (a .lines) (there start) (this covered) (start .pre .1 .1))
+    (this-segment (a .legends .now) (a .at) (a .number) (cellsIn (a .out .now)) (a .lines) (there start) (this covered) (length-cells (a .out .now) ∙ omega (arith, start .pre .1 .1)))
 
 pub paint-spec : {M : Type 1} → statement M
 paint-spec =

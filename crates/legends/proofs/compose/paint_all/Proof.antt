@@ -5,6 +5,7 @@ use Prim.Native.Nat.{ℕ, _≤_, _+_, _-_}
 use native.Mathlib.Omega.{arith}
 use lib.ListN.{length, drop, List·getD-eq-default}
 use borrow.Author.Needs.{needs}
+use Rattle.line.specs.Cells.{cellsIn}
 use Rattle.legends.specs.Legends.{segmentOf, segmentLength, storedSegments, copyFrom}
 use Rattle.legends.proofs.SegmentLaws.{SoundFirst, end-at}
 use Rattle.legends.proofs.ComposeLaws.{Left, left-start, left-here, left-step, left-end}
@@ -14,7 +15,7 @@ use Rattle.legends.proofs.compose.paint_all.Tie as tie
 abbrev Inv-loop : tie.InvT-loop
 Inv-loop out₀ legends number lines at₀ out at =
     (at ≤ length legends)
-    × ((length out ≡ length out₀) × Left legends number at out (copyFrom (map segmentOf (storedSegments legends)) number 0 out₀))
+    × ((length out ≡ length out₀) × Left legends number at (cellsIn out) (copyFrom (map segmentOf (storedSegments legends)) number 0 (cellsIn out₀)))
 
 abbrev μ-loop : tie.MeasureT-loop
 μ-loop out₀ legends number lines at₀ out at = length legends - at
@@ -28,7 +29,7 @@ module _ (c : tie.Else1 Inv-loop μ-loop) where
   G = c .before .before .before .before .before .before .args .legends .now
 
   here : SoundFirst (drop At G)
-  here = let l = c .before .before .before .loop in left-here G _ At (l .out) _ (c .if1 .left) (l .inv .1 .1)
+  here = let l = c .before .before .before .loop in left-here G _ At (cellsIn (l .out)) _ (c .if1 .left) (l .inv .1 .1)
 
   fits : At + segmentLength (drop At G) ≤ length G
   fits = end-at G At _ refl here
@@ -57,7 +58,7 @@ loop-again c =
     let l = turn .before .before .before .loop in
     let p = c .before .before .before .paint in
     let m = c .segment-length in
-    let step = left-step (G turn) _ (l .at) (l .out) _ (turn .if1 .left) (l .inv .1 .1) (m .result) (m .ensures .0) in
+    let step = left-step (G turn) _ (l .at) (cellsIn (l .out)) _ (turn .if1 .left) (l .inv .1 .1) (m .result) (m .ensures .0) in
     (omega (arith, fits turn, m .ensures), (p .kept .0 ∙ l .inv .1 .0, rw (p .ensures) step))
 
 returns-2 : tie.Need-returns-2 Inv-loop μ-loop

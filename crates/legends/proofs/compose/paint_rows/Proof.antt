@@ -1,19 +1,20 @@
 -- Each turn paints the text into one row more.
-use mathlib.Core.Path.{_≡_, refl, ap, _∙_}
+use mathlib.Core.Path.{_≡_, refl, _∙_}
 use mathlib.Core.List.{[], _∷_}
 use Prim.Native.Nat.{_≤_, _-_}
 use native.Mathlib.Nat.{add-sub-cancel-left}
 use native.Mathlib.Omega.{arith}
 use lib.ListN.{length}
 use borrow.Author.Needs.{needs}
+use Rattle.line.specs.Cells.{cellsIn}
 use Rattle.legends.specs.Legends.{copyFrom}
-use Rattle.legends.proofs.ComposeLaws.{textRows, rows-none, rows-more, length-copyFrom}
+use Rattle.legends.proofs.ComposeLaws.{textRows, rows-none, rows-put}
 use Rattle.legends.proofs.compose.paint_rows.Statement.{statement}
 use Rattle.legends.proofs.compose.paint_rows.Tie as tie
 
 abbrev Inv-loop : tie.InvT-loop
 Inv-loop out₀ text row end place n i₀ out i =
-    (row ≤ i) × ((i - row ≤ end - row) × ((length out ≡ length out₀) × (out ≡ copyFrom (textRows text row place i ∷ []) 0 0 out₀)))
+    (row ≤ i) × ((i - row ≤ end - row) × ((length out ≡ length out₀) × (cellsIn out ≡ copyFrom (textRows text row place i ∷ []) 0 0 (cellsIn out₀))))
 
 abbrev μ-loop : tie.MeasureT-loop
 μ-loop out₀ text row end place n i₀ out i = end - i
@@ -23,16 +24,13 @@ loop-holds c = (search needs, (search needs, (refl, rows-none (c .before .before
 
 loop-again : tie.Need-loop-again Inv-loop μ-loop
 loop-again c =
-    let a = c .before .before .before .before .before .before .before .before .args in
-    let l = c .before .before .before .before .before .loop in
-    let e = rows-more (a .text .now) (a .out .now) (a .row) (a .place) (l .i) (l .out) (search needs) (search needs) (search needs)
-    (l .inv .1 .1 .1) in (
-      search needs,
-      (
-        search needs,
-        simp (add-sub-cancel-left, c .before .before .move-all .ensures) (ap length e ∙ length-copyFrom _ 0 0 (a .out .now), e),
-      ),
-    )
+    let set = c .before .before in
+    let turn = set .before .before .before in
+    let l = turn .loop in
+    let a = turn .before .before .before .args in
+    let e = rows-put (a .text .now) (a .out .now) (l .out) (set .set .last .0) (a .row) (a .place) (l .i) _ (search needs) (search needs) (search needs)
+    (l .inv .1 .1 .0) (l .inv .1 .1 .1) (set .set .ensures) refl in
+    (search needs, (search needs, (search needs, simp add-sub-cancel-left e)))
 
 returns : tie.Need-returns Inv-loop μ-loop
 returns c =
@@ -47,7 +45,9 @@ paint-rows-spec =
     (tie.spec
     Inv-loop
     μ-loop
+    (λ c. search needs)
     loop-holds
+    (λ c. search needs)
     (λ c. search needs)
     (λ c. search needs)
     (λ c. search needs)
