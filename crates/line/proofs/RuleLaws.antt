@@ -1,0 +1,179 @@
+-- What is promised about T-03: the mark of a merged cell, its code, and that writing leaves no mark but 0 and 1.
+use Prim.Native.Nat.{ℕ, zero, suc, _+_, _*_, _-_, _≤_, _<_}
+use mathlib.Core.Path.{_≡_, refl, sym, ap, _∙_}
+use mathlib.Core.Bool.{Bool, true, false, cond, not, _&&_, _||_, true≢false}
+use mathlib.Core.Option.{Option}
+use mathlib.Core.List.{List, [], _∷_, _++_, map, map-append, zipWith}
+use native.Mathlib.Omega.{arith}
+use lib.ListN.{length, take, drop, replicate}
+use lib.Dec.{eqb, ltb}
+use Rattle.seq.specs.Words.{any, all, when, firstOr}
+use Rattle.seq.proofs.Laws.{or-left, or-right, map-take, map-drop}
+use Rattle.seq.proofs.Loops.{any-append, any-split}
+use Rattle.numbers.specs.Sizes.{cellBytes, lineWidth, lineBytes}
+use Rattle.line.specs.declared.Cell.{Cell}
+use Rattle.line.specs.Cells.{unruled, ruled, stored, cellsIn, badMark, marksOk}
+use Rattle.line.specs.Line.{isBlank, isUnderscore, mergeRules, mergeCell, isNone, collides, mergeLine, cellsAfter, lineAt, putLine, pageWritten}
+use Rattle.line.specs.Rules.{makesRule, codeRules, mergeCode, codesCollide, codesIn, codesWritten}
+use Rattle.line.proofs.StoredLaws.{cells-put, cells-take, cells-drop}
+use Rattle.line.proofs.CellLaws.{merge-by-tests}
+use Rattle.line.proofs.LineLaws.{length-lineAt, length-cellsAfter}
+
+-- A merge sets the mark where a character meets an underscore, and else keeps it.
+pub merged-mark : (old : Cell) (new : ℕ) → mergeCell old new .mark ≡ cond (makesRule (old .code) new) 1 (old .mark)
+unfolding makesRule
+merged-mark old new = sym (ap (λ (c : Cell). c .mark) (merge-by-tests old new))
+
+-- Its code and whether it collides are those of document 01's merge of codes.
+module _ (old : Cell) (new : ℕ) where
+  abbrev cellRules : Bool → Bool → Bool → Bool → Bool → List (Option Cell)
+  cellRules same bo bn uo un =
+      when same old ∷ when bo (record { code = new; mark = old .mark }) ∷ when bn old ∷ when uo (ruled new) ∷ when un (ruled (old .code)) ∷ []
+
+  abbrev baseRules : Bool → Bool → Bool → Bool → Bool → List (Option ℕ)
+  baseRules same bo bn uo un = when same (old .code) ∷ when bo new ∷ when bn (old .code) ∷ when uo new ∷ when un (old .code) ∷ []
+
+  same-rules : (same bo bn uo un : Bool)
+      → (firstOr old (cellRules same bo bn uo un) .code ≡ firstOr (old .code) (baseRules same bo bn uo un))
+      × (all isNone (cellRules same bo bn uo un) ≡ all isNone (baseRules same bo bn uo un))
+  unfolding firstOr when
+  same-rules true bo bn uo un = (refl, refl)
+  same-rules false true bn uo un = (refl, refl)
+  same-rules false false true uo un = (refl, refl)
+  same-rules false false false true un = (refl, refl)
+  same-rules false false false false true = (refl, refl)
+  same-rules false false false false false = (refl, refl)
+
+  merged : (mergeCell old new .code ≡ mergeCode (old .code) new) × (collides old new ≡ codesCollide (old .code) new)
+  unfolding mergeCell mergeCode collides codesCollide mergeRules codeRules
+  merged =
+      let c = old .code in
+      same-rules ((isBlank c && isBlank new) || (isUnderscore c && isUnderscore new) || eqb c new) (isBlank c) (isBlank new) (isUnderscore c) (isUnderscore new)
+
+  pub merged-code : mergeCell old new .code ≡ mergeCode (old .code) new
+  merged-code = merged .0
+
+  pub merged-clash : collides old new ≡ codesCollide (old .code) new
+  merged-clash = merged .1
+
+abbrev code : Cell → ℕ
+code c = c .code
+
+-- So the codes of a page are what document 01 makes of them, and the mark is all that T-03 adds.
+codes-after : (later : Bool) (old : List Cell) (new : List ℕ)
+    → map code (cellsAfter later old new) ≡ cond later (zipWith mergeCode (map code old) new) new
+unfolding cellsAfter mergeLine zipWith
+codes-after true old new = merged old new
+  where
+    merged : (old : List Cell) (new : List ℕ) → map code (zipWith mergeCell old new) ≡ zipWith mergeCode (map code old) new
+    merged [] new = refl
+    merged (c ∷ old) [] = refl
+    merged (c ∷ old) (n ∷ new) = λ i. merged-code c n i ∷ merged old new i
+codes-after false old new = set new
+  where
+    set : (new : List ℕ) → map code (map unruled new) ≡ new
+    set [] = refl
+    set (n ∷ new) = ap (λ (l : List ℕ). n ∷ l) (set new)
+
+-- No mark but 0 and 1.
+merged-good : (old : Cell) (new : ℕ) → badMark old ≡ false → badMark (mergeCell old new) ≡ false
+merged-good old new e = ap (ltb 1) (merged-mark old new) ∙ go (makesRule (old .code) new)
+  where
+    go : (t : Bool) → ltb 1 (cond t 1 (old .mark)) ≡ false
+    go true = refl
+    go false = e
+
+line-good : (later : Bool) (old : List Cell) (new : List ℕ) → any badMark old ≡ false → any badMark (cellsAfter later old new) ≡ false
+unfolding cellsAfter mergeLine zipWith
+line-good true old new e = merged old new e
+  where
+    merged : (old : List Cell) (new : List ℕ) → any badMark old ≡ false → any badMark (zipWith mergeCell old new) ≡ false
+    merged [] new e = refl
+    merged (c ∷ old) [] e = refl
+    merged (c ∷ old) (n ∷ new) e =
+        λ i. merged-good c n (or-left (badMark c) (any badMark old) e) i || merged old new (or-right (badMark c) (any badMark old) e) i
+line-good false old new e = unmarked new
+  where
+    unmarked : (new : List ℕ) → any badMark (map unruled new) ≡ false
+    unmarked [] = refl
+    unmarked (n ∷ new) = unmarked new
+
+-- A page with a line's cells set: those before it, the line's, and those after it.
+module _ (l : ℕ) (p : List ℕ) (first : 1 ≤ l) (inside : lineBytes * l ≤ length p) (cs : List Cell) (size : length cs ≡ lineWidth) where
+  abbrev before : ℕ
+  before = lineWidth * (l - 1)
+
+  pub cells-putLine : cellsIn (putLine l cs p) ≡ take before (cellsIn p) ++ (cs ++ drop lineWidth (drop before (cellsIn p)))
+  unfolding putLine
+  cells-putLine =
+      let at : lineBytes * (l - 1) ≡ cellBytes * before = omega arith in
+      let wide : lineBytes ≡ cellBytes * length cs = rw size refl in
+      (λ i. cellsIn (take (at i) p ++ (stored cs ++ drop (wide i) (drop (at i) p)))) ∙ cells-put before cs p (omega arith)
+      ∙ (λ i. take before (cellsIn p) ++ (cs ++ drop (size i) (drop before (cellsIn p))))
+
+-- Line l of a page, among the page's cells.
+line-cells : (l : ℕ) (p : List ℕ) → lineAt l p ≡ take lineWidth (drop (lineWidth * (l - 1)) (cellsIn p))
+unfolding lineAt
+line-cells l p =
+    let before = lineWidth * (l - 1) in
+    let at : lineBytes * (l - 1) ≡ cellBytes * before = omega arith in
+    (λ i. cellsIn (take lineBytes (drop (at i) p))) ∙ cells-take lineWidth (drop (cellBytes * before) p) ∙ ap (take lineWidth) (cells-drop before p)
+
+module _ (later : Bool) (l : ℕ) (new p : List ℕ) (first : 1 ≤ l) (inside : lineBytes * l ≤ length p) (size : length new ≡ lineWidth) where
+  abbrev after : List Cell
+  after = cellsAfter later (lineAt l p) new
+
+  pub cells-written : cellsIn (pageWritten later l new p)
+      ≡ take (lineWidth * (l - 1)) (cellsIn p) ++ (after ++ drop lineWidth (drop (lineWidth * (l - 1)) (cellsIn p)))
+  unfolding pageWritten
+  cells-written = cells-putLine l p first inside after (length-cellsAfter later (lineAt l p) new (length-lineAt l p first inside ∙ sym size) ∙ size)
+
+  pub codes-written : codesIn (pageWritten later l new p) ≡ codesWritten later l new (codesIn p)
+  unfolding codesWritten
+  codes-written =
+      let at = lineWidth * (l - 1) in
+      let part : map code (drop at (cellsIn p)) ≡ drop at (codesIn p) = map-drop code at (cellsIn p) in
+      let old : map code (lineAt l p) ≡ take lineWidth (drop at (codesIn p)) =
+      ap (map code) (line-cells l p) ∙ map-take code lineWidth (drop at (cellsIn p)) ∙ ap (take lineWidth) part in
+      let line = codes-after later (lineAt l p) new ∙ (λ i. cond later (zipWith mergeCode (old i) new) new) in
+      let rest = map-drop code lineWidth (drop at (cellsIn p)) ∙ ap (drop lineWidth) part in
+      ap (map code) cells-written ∙ map-append code (take at (cellsIn p)) _
+      ∙ (λ i. map-take code at (cellsIn p) i ++ map-append code after (drop lineWidth (drop at (cellsIn p))) i)
+      ∙ (λ i. take at (codesIn p) ++ (line i ++ rest i))
+
+any-take : {A : Type 0} (f : A → Bool) (n : ℕ) (xs : List A) → any f xs ≡ false → any f (take n xs) ≡ false
+any-take f n xs e = or-left (any f (take n xs)) _ (sym (any-split f n xs) ∙ e)
+
+any-drop : {A : Type 0} (f : A → Bool) (n : ℕ) (xs : List A) → any f xs ≡ false → any f (drop n xs) ≡ false
+any-drop f n xs e = or-right (any f (take n xs)) _ (sym (any-split f n xs) ∙ e)
+
+none-bad : (p : List ℕ) → marksOk p ≡ true → any badMark (cellsIn p) ≡ false
+unfolding marksOk
+none-bad p e = go (any badMark (cellsIn p)) e
+  where
+    go : (t : Bool) → not t ≡ true → t ≡ false
+    go true e = absurd (true≢false (sym e))
+    go false e = refl
+
+pub marks-written : (later : Bool) (l : ℕ) (new p : List ℕ) → 1 ≤ l → lineBytes * l ≤ length p → length new ≡ lineWidth → marksOk p ≡ true
+    → marksOk (pageWritten later l new p) ≡ true
+unfolding marksOk
+marks-written later l new p first inside size e =
+    let none = none-bad p e in
+    let at = lineWidth * (l - 1) in
+    let after = drop at (cellsIn p) in
+    let rest = any-drop badMark at (cellsIn p) none in
+    let good = line-good later (lineAt l p) new (ap (any badMark) (line-cells l p) ∙ any-take badMark lineWidth after rest) in
+    ap not
+    (ap (any badMark) (cells-written later l new p first inside size) ∙ any-append badMark (take at (cellsIn p)) _
+    ∙ (λ i. any-take badMark at (cellsIn p) none i || any-append badMark (cellsAfter later (lineAt l p) new) (drop lineWidth after) i)
+    ∙ (λ i. good i || any-drop badMark lineWidth after rest i))
+
+pub marks-none : (n : ℕ) → marksOk (replicate n 0) ≡ true
+unfolding marksOk cellsIn
+marks-none n = ap not (go n)
+  where
+    go : (n : ℕ) → any badMark (cellsIn (replicate n 0)) ≡ false
+    go zero = refl
+    go (suc zero) = refl
+    go (suc (suc n)) = go n
