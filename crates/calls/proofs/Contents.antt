@@ -1,14 +1,15 @@
 -- Document 01, "Numbers" and "Commands", by computation: each clause of "contents no printer has" is a test of its own, what is allowed
 -- is allowed, Start's refusals come in their order, and 46 bytes are commands.
-use Prim.Native.Nat.{ℕ, zero, suc, _+_, _-_}
+use Prim.Native.Nat.{ℕ, zero, suc, _+_, _*_, _-_}
 use mathlib.Core.Path.{_≡_, refl}
 use mathlib.Core.Bool.{Bool, true, false, cond, not}
 use mathlib.Core.List.{List, [], _∷_, _++_, map, flatten}
 use lib.ListN.{length, set, replicate}
 use Rattle.seq.specs.Words.{when, firstOr, every, from, zeros, padded}
-use Rattle.numbers.specs.Sizes.{lineWidth, pageSize, legendSize, tableSize}
+use Rattle.numbers.specs.Sizes.{lineWidth, lineBytes, pageLines, pageSize, legendSize, tableSize}
 use Rattle.numbers.specs.Numbers.{rowOf, numberOf, isSound}
 use Rattle.form.specs.Form.{formLengths, pitchesListed, pitchesOk, formOk, unitsOf, runsFrom, runs, unitsTotal, linesWhere, printable, edges, fcbCheck, layoutCheck, layoutOf, startFcb, fcbSize, formsOf, formsInRange}
+use Rattle.line.specs.Cells.{ruled, stored, cellsIn, marksOk}
 use Rattle.line.specs.Line.{startTable, startTables, startSlots, slotsInRange}
 use Rattle.copies.specs.Copies.{pairSize, pairsOf, copiesOf, sequenceCheck, startCopies, copiesInRange}
 use Rattle.legends.specs.Legends.{badHead, cut, segments, legendCheck, storedSegments, legendsOk, noLegends}
@@ -87,30 +88,33 @@ broken =
     ∷ breaks 6 (with-legends (0 ∷ 1 ∷ [])) ∷ breaks 6 (with-legends (1 ∷ 1 ∷ 1 ∷ 1 ∷ 1 ∷ 1 ∷ 0 ∷ 0 ∷ 1 ∷ []))
     -- counters that no calls lead to: a page ahead of transfer, of fuser, of stacker; one too many out; three bytes
     ∷ breaks 7 (with-counters 5 6 5 5) ∷ breaks 7 (with-counters 6 5 6 5) ∷ breaks 7 (with-counters 5 5 5 6) ∷ breaks 7 (with-counters 0 0 0 0x8000) ∷ breaks 7 (with-counters 0x10000 0 0 0)
+    -- a mark that is neither 0 nor 1: in the first cell, in the first one past line P, in the last one
+    ∷ breaks 8 (withPage k84 (set (zeros pageSize) 1 2)) ∷ breaks 8 (withPage k84 (set (zeros pageSize) (lineBytes * 15 + 1) 0x80)) ∷ breaks 8 (withPage k84 (set (zeros pageSize) (pageSize - 1) 0xFF))
     ∷ []
 
 -- Contents that are not on the list: a page that waits with the form at any line, a form at 8 lines per inch, all copies, full legends,
--- any cell and table bytes, counters before and after the wrap and with as many pages out as there may be.
+-- any codes in the cells and their marks, any table bytes, counters before and after the wrap and with as many pages out as there may be.
 unfoldable pub unbroken : List Core
 unbroken =
     k84
     ∷ with-sheet 15 true false false ∷ with-sheet 15 false true true ∷ with-sheet 5 false true false
     ∷ with-fcb (padded fcbSize (replicate 28 0x10)) 28 ∷ with-slots true 3 ∷ with-copies (255 ∷ 1 ∷ zeros (pairSize - 2)) 2 255
-    ∷ withPage k84 (replicate pageSize 0xFF) ∷ withTables k84 (replicate tableSize 0xFF)
+    ∷ withPage k84 (stored (replicate (pageLines * lineWidth) (ruled 0xFF))) ∷ withTables k84 (replicate tableSize 0xFF)
     ∷ with-legends (1 ∷ 1 ∷ 1 ∷ 1 ∷ 0xCC ∷ 1 ∷ 0 ∷ []) ∷ with-legends (full 39)
     ∷ with-counters 7 6 6 5 ∷ with-counters 1 0 0xFFFF 0xFFFE ∷ with-counters 0x7FFE 0x7FFE 0xFFFF 0xFFFF
     ∷ []
 
 -- Broken contents break the one clause, and no other; what is allowed breaks none.
-pub clauses-table : (map (λ b. clauses (b .core)) broken ≡ map (λ b. set (replicate 8 true) (b .clause) false) broken)
-    × (map clauses unbroken ≡ replicate 14 (replicate 8 true))
-unfolding broken unbroken flatten when firstOr every padded isSound formLengths pitchesListed pitchesOk formOk unitsOf runsFrom runs unitsTotal linesWhere printable edges fcbCheck layoutCheck layoutOf startFcb formsOf formsInRange startTable startTables startSlots slotsInRange pairsOf copiesOf sequenceCheck startCopies copiesInRange badHead cut segments legendCheck storedSegments legendsOk noLegends sizesOk linesNow lineOk rangesOk dueOk writtenOk blankSheet noCells resetState resetStores fresh countersOk
+pub clauses-table : (map (λ b. clauses (b .core)) broken ≡ map (λ b. set (replicate 9 true) (b .clause) false) broken)
+    × (map clauses unbroken ≡ replicate 14 (replicate 9 true))
+unfolding broken unbroken flatten when firstOr every padded isSound formLengths pitchesListed pitchesOk formOk unitsOf runsFrom runs unitsTotal linesWhere printable edges fcbCheck layoutCheck layoutOf startFcb formsOf formsInRange startTable startTables startSlots slotsInRange pairsOf copiesOf sequenceCheck startCopies copiesInRange badHead cut segments legendCheck storedSegments legendsOk noLegends sizesOk linesNow lineOk rangesOk dueOk writtenOk blankSheet noCells resetState resetStores fresh countersOk stored cellsIn marksOk
 clauses-table = (refl, refl)
 
--- All cell and table bytes are allowed. (So is all legend text: `stored-ok` holds whatever the text is translated to.)
-pub any-page : (k : Core) (p : List ℕ) → length p ≡ length (k .stores .page) → coreOk (withPage k p) ≡ coreOk k
+-- All codes in cells and all table bytes are allowed: of a page the marks alone count. (So is all legend text: `stored-ok` holds whatever the text is
+-- translated to.)
+pub any-page : (k : Core) (p : List ℕ) → length p ≡ length (k .stores .page) → marksOk p ≡ marksOk (k .stores .page) → coreOk (withPage k p) ≡ coreOk k
 unfolding coreOk sizesOk
-any-page k p e = rw e
+any-page k p e m = rw (e, m)
 
 pub any-tables : (k : Core) (t : List ℕ) → length t ≡ length (k .stores .tables) → coreOk (withTables k t) ≡ coreOk k
 unfolding coreOk sizesOk

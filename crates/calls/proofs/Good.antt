@@ -1,6 +1,6 @@
 -- Document 01, "Numbers": contents that a printer can have, part by part. They are just those that get no 9; Start and a reset leave such, and so does each
 -- change that a call makes (Changes has the list of these).
-use Prim.Native.Nat.{ℕ, _≤_, zero, suc}
+use Prim.Native.Nat.{ℕ, _*_, _≤_, zero, suc}
 use mathlib.Core.Path.{_≡_, refl, ap, _∙_}
 use mathlib.Core.Bool.{Bool, true, false, not, _&&_, and-false, or-true}
 use mathlib.Core.List.{List, [], _∷_}
@@ -11,7 +11,7 @@ use lib.Seq.{length-take-le}
 use borrow.Author.Tests.{eqb-true, eq-eqb, leb-true, le-leb}
 use Rattle.seq.specs.Words.{every, when, firstOr, listed, padded}
 use Rattle.seq.proofs.Laws.{every-at, padded-take, padded-zero, cond-has, finally, also, every-of}
-use Rattle.numbers.specs.Sizes.{pageLines, pageSize, legendSize, lineWidth, slotSize, tableSize}
+use Rattle.numbers.specs.Sizes.{lineBytes, pageLines, pageSize, legendSize, lineWidth, slotSize, tableSize}
 use Rattle.numbers.specs.declared.Checked.the-variants.{Sound}
 use Rattle.numbers.specs.Numbers.{isSound, isAccepted}
 use Rattle.numbers.proofs.Laws.{sound-is}
@@ -23,8 +23,10 @@ use Rattle.movement.specs.declared.Moved.{Moved}
 use Rattle.movement.specs.Movement.{toTop}
 use Rattle.movement.proofs.MovementLaws.{down, over, Went, stays, goes, went}
 use Rattle.line.specs.declared.Slots.{Slots}
+use Rattle.line.specs.Cells.{marksOk}
 use Rattle.line.specs.Line.{startSlots, slotsInRange, serving, translated}
-use Rattle.line.proofs.LineLaws.{length-startTables, length-translated, length-lineCells, length-pageWritten, length-putSlot}
+use Rattle.line.proofs.LineLaws.{length-startTables, length-translated, length-lineCodes, length-pageWritten, length-putSlot}
+use Rattle.line.proofs.RuleLaws.{marks-written, marks-none}
 use Rattle.copies.specs.declared.Copies.{Copies}
 use Rattle.copies.specs.Copies.{pairsOf, copiesOf, sequenceCheck, startCopies, copiesInRange, pairSize, numberCheck, withSequence, withReference}
 use Rattle.copies.proofs.CopiesLaws.{table-long, sequence-fits, number-some}
@@ -75,13 +77,14 @@ good k e =
       sheet = record { low = leb-true _ _ (every-at 0 _ l); high = leb-true _ _ (every-at 1 _ l); due = every-at 2 _ e; written = every-at 3 _ e };
       legends = every-at 6 _ e;
       counters = every-at 7 _ e;
+      marks = every-at 8 _ e;
     }
 
 pub ok : (k : Core) → Good k → coreOk k ≡ true
 unfolding coreOk rangesOk every isSound
 ok k g =
     let x = g .sheet in
-    rw (sizes-ok _ (g .sizes), g .fixed, g .forms .range, g .slots, g .copies .range, line-ok _ (k .state .sheet) (x .low) (x .high), x .due, x .written, g .forms .sound, g .copies .sound, g .legends, g .counters)
+    rw (sizes-ok _ (g .sizes), g .fixed, g .forms .range, g .slots, g .copies .range, line-ok _ (k .state .sheet) (x .low) (x .high), x .due, x .written, g .forms .sound, g .copies .sound, g .legends, g .counters, g .marks)
 
 -- Forms control that its load takes is kept as it was sent, and has a line 1.
 pub forms-now : (r : List ℕ) → fcbNow (formsOf r) ≡ r
@@ -105,8 +108,13 @@ pub no-cells : length noCells ≡ pageSize
 unfolding noCells
 no-cells = length-replicate {A = ℕ} pageSize 0
 
+no-marks : marksOk noCells ≡ true
+unfolding noCells
+no-marks = marks-none pageSize
+
 -- A reset leaves such contents, and so do Start and a finished reset.
-module _ (f : Fixed) (kept : Kept) (page : List ℕ) (e : FixedGood f) (size : length page ≡ pageSize) (counters : countersOk (kept .counters) ≡ true) where
+module _ (f : Fixed) (kept : Kept) (page : List ℕ) (e : FixedGood f) (size : length page ≡ pageSize) (counters : countersOk (kept .counters) ≡ true)
+    (marks : marksOk page ≡ true) where
   pub reset-good : Good (record { state = resetState f kept; stores = resetStores page })
   unfolding resetState resetStores linesNow noLegends startSlots slotsInRange startCopies copiesInRange sequenceCheck pairsOf copiesOf every padded firstOr when
   reset-good =
@@ -120,11 +128,12 @@ module _ (f : Fixed) (kept : Kept) (page : List ℕ) (e : FixedGood f) (size : l
         sheet = blank-good _ 1 (lit≤ tt) (forms-line (f .length) (startFcb (f .length)) l (start-sound (f .length) l));
         legends = none-ok;
         counters = counters;
+        marks = marks;
       }
 
 pub start-good : (a : Asked) (m : Stores) → isAccepted (startRefusal a m) ≡ true → Good (startWorld a .core)
 unfolding startWorld fresh
-start-good a m e = reset-good (fixedBy a) startKept noCells (startable a m e .form) no-cells start-ok
+start-good a m e = reset-good (fixedBy a) startKept noCells (startable a m e .form) no-cells start-ok no-marks
 
 -- The printable lines of a form that is laid out are P.
 pub form-lines : (s : State) (w : Layout) → w ≡ laidOut s → w .lines ≡ P s
@@ -139,10 +148,10 @@ few-now k g =
     few-lines (f .length) _ (form-listed (f .length) (f .pitches) (g .fixed)) (g .forms .sound)
 
 -- The core with another sheet and page, other slots and tables, other copies.
-with-sheet : {k : Core} (x : Sheet) (p : List ℕ) → Good k → SheetGood (P (k .state)) x → length p ≡ pageSize
+with-sheet : {k : Core} (x : Sheet) (p : List ℕ) → Good k → SheetGood (P (k .state)) x → length p ≡ pageSize → marksOk p ≡ true
     → Good (withPage (withState k (withSheet (k .state) x)) p)
 unfolding linesNow
-with-sheet x p g h e = search
+with-sheet x p g h e m = search
 
 with-slots : {k : Core} (s : Slots) (t : List ℕ) → Good k → slotsInRange s ≡ true → length t ≡ tableSize
     → Good (withTables (withState k (withSlots (k .state) s)) t)
@@ -158,10 +167,13 @@ pub good-write : {k : Core} (r : List ℕ) → Good k → Free k → length r �
 unfolding written writtenSheet writtenOk dueOk
 good-write {k} r g w h =
     let s = g .sheet in
+    let line = k .state .sheet .line in
+    let later = k .state .sheet .written in
+    let inside : lineBytes * line ≤ length (k .stores .page) = omega (arith, few-now k g, s .high, g .sizes .page) in
+    let size = length-lineCodes _ _ r h in
     with-sheet _ _ g (record { low = s .low; high = s .high; due = s .due; written = rw w })
-    (length-pageWritten (k .state .sheet .line) (k .stores .page) (s .low) (omega (arith, few-now k g, s .high, g .sizes .page))
-    (k .state .sheet .written) _ (length-lineCells _ _ r h)
-    ∙ g .sizes .page)
+    (length-pageWritten line (k .stores .page) (s .low) inside later _ size ∙ g .sizes .page)
+    (marks-written later line _ (k .stores .page) (s .low) inside size (g .marks))
 
 pub move-went : {k : Core} (m : Motion) → Good k → Went (P (k .state)) (k .state .sheet .line) (moveOf (k .state) m)
 unfolding moveOf
@@ -180,7 +192,7 @@ moved-good {k} due m g w h =
     (cond-has (SheetGood (P (k .state))) (eqb (m .pages) 0)
     (λ t. record { low = h .0; high = h .1; due = g .sheet .due; written = rw (w, and-false (s .written && eqb (m .lines) 0)) })
     (λ t. record { low = h .0; high = h .1; due = or-true (not due); written = refl }))
-    (g .sizes .page)
+    (g .sizes .page) (g .marks)
 
 pub good-move : {k : Core} (m : Moved) → Good k → Free k → Went (P (k .state)) (k .state .sheet .line) m → Good (movedCore false k m)
 good-move m g w h = moved-good false m g w (went-on (g .sheet .low) (g .sheet .high) h)
@@ -192,11 +204,11 @@ good-complete due g w = moved-good due toTop g w (lit≤ tt, omega (arith, g .sh
 
 pub good-reset : {k : Core} → Good k → Good (reset k)
 unfolding reset
-good-reset {k} g = reset-good (k .state .fixed) (keptOf (k .state)) (k .stores .page) (g .fixed) (g .sizes .page) (g .counters)
+good-reset {k} g = reset-good (k .state .fixed) (keptOf (k .state)) (k .stores .page) (g .fixed) (g .sizes .page) (g .counters) (g .marks)
 
 pub good-empty : {k : Core} → Good k → Good (emptied k)
 unfolding emptied
-good-empty {k} g = with-sheet _ noCells g (blank-good _ (k .state .sheet .line) (g .sheet .low) (g .sheet .high)) no-cells
+good-empty {k} g = with-sheet _ noCells g (blank-good _ (k .state .sheet .line) (g .sheet .low) (g .sheet .high)) no-cells no-marks
 
 -- Other counters that calls can lead to: a page counted, and what a report, a cancel or a restart makes of them.
 with-counters : {k : Core} (c : Counters) → Good k → countersOk c ≡ true → Good (withState k (withCounters (k .state) c))

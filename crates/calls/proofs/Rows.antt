@@ -1,4 +1,4 @@
--- Document 01, "Rows for the table": R1 to R12 and rows of our own, one table, proved by computation.
+-- Document 01, "Rows for the table": R1 to R12, rows of our own, and rows for the requests of document 02, proved by computation.
 use Prim.Native.Nat.{ℕ, _+_, _*_, _-_}
 use mathlib.Core.Path.{_≡_, refl}
 use mathlib.Core.Bool.{Bool, true, false}
@@ -15,8 +15,10 @@ use Rattle.numbers.specs.Numbers.{sense3, noSense, causeOf, rowOf, isAccepted, 
 use Rattle.form.specs.declared.Forms.{Forms}
 use Rattle.form.specs.Form.{formLengths, pitchesListed, pitchesOk, formOk, unitsOf, runsFrom, runs, unitsTotal, linesWhere, printable, edges, fcbCheck, layoutCheck, layoutOf, channelAt, startFcb, fcbSize, formsOf, formsInRange}
 use Rattle.movement.specs.Movement.{entered, round, upToFirst, spaced, skipped, moved, still, toTop}
+use Rattle.line.specs.declared.Cell.{Cell}
 use Rattle.line.specs.declared.Slots.{Slots}
-use Rattle.line.specs.Line.{slotAt, putSlot, isLoaded, serving, unprintable, standIn, cellOf, translated, unprintableAt, lineCells, mergeRules, mergeCell, collides, mergeLine, anyCollides, lineAt, putLine, pageWritten, noCauses, textCauses, lineCauses, orUnmatched, causeByte, startTable, startTables, startSlots, slotsInRange}
+use Rattle.line.specs.Cells.{unruled, ruled, stored, cellsIn, marksOk}
+use Rattle.line.specs.Line.{slotAt, putSlot, isLoaded, serving, unprintable, standIn, codeOf, translated, unprintableAt, lineCodes, mergeRules, mergeCell, collides, mergeLine, anyCollides, cellsAfter, lineAt, putLine, pageWritten, noCauses, textCauses, lineCauses, orUnmatched, causeByte, startTable, startTables, startSlots, slotsInRange}
 use Rattle.copies.specs.declared.Copies.{Copies}
 use Rattle.copies.specs.Copies.{pairSize, tableCheck, pairsOf, copiesOf, sequenceCheck, markIn, numberCheck, withSequence, withReference, startCopies, copyCount, copyNumber, copyMark, copiesInRange}
 use Rattle.legends.specs.Legends.{segmentOf, badHead, cut, segments, legendCheck, storedLegends, unprintableInTexts, storedSegments, legendsOk, noLegends, covers, shown, copyFrom, composed}
@@ -56,7 +58,8 @@ ran r (c ∷ cs) =
     let o = step (r .world) c in
     ran (record { calls = r .calls ++ (c ∷ []); answers = r .answers ++ (o .answer ∷ []); buffer = o .buffer; world = o .world }) cs
 
-abbrev see : Row → Row
+unfoldable pub see : Row → Row
+unfolding ran stored cellsIn marksOk flatten zipWith when firstOr every padded causeOf rowOf isAccepted checked isSound formLengths pitchesListed pitchesOk formOk unitsOf runsFrom runs unitsTotal linesWhere printable edges fcbCheck layoutCheck layoutOf channelAt startFcb formsOf formsInRange entered round upToFirst spaced skipped moved still toTop slotAt putSlot isLoaded serving unprintable standIn codeOf translated unprintableAt lineCodes mergeRules mergeCell collides mergeLine anyCollides cellsAfter lineAt putLine pageWritten noCauses textCauses lineCauses orUnmatched causeByte startTable startTables startSlots slotsInRange tableCheck pairsOf copiesOf sequenceCheck markIn numberCheck withSequence withReference startCopies copyCount copyNumber copyMark copiesInRange segmentOf badHead cut segments legendCheck storedLegends unprintableInTexts storedSegments legendsOk noLegends covers shown copyFrom composed sizesOk linesNow started codes lookUp decode controlTraits traitsOf lineOk rangesOk dueOk writtenOk coreOk blankSheet noCells resetState resetStores reset fresh byte3 senseBytes refused done movedSheet moveOf doMove writtenSheet written writeCauses doWrite loadCheck atLine1 slotLoaded slotSelected loaded loadCauses doLoad completing doControl doCommand checkOf movement refusalOf copyAt doCompose pageCounted emptied releasedCore doRelease tallying doTally counted tallied transferred fused stacked cancelled restarted noneBetween countersOk perform effect step startRefusal startWorld noState noPrinter startOutcome worldAfter counts readOf deedOf finishesReset sinceNow note sinceOver sinceReset copiesOfPage given
 see r = ran (record { calls = []; answers = []; buffer = []; world = begun (r .world .core .state .fixed .pitches) }) (r .calls)
 
 -- Calls: a command alone, one with a record, Sense into a buffer of a byte too many, Compose into an output of just the form's 15 lines.
@@ -144,12 +147,19 @@ table0 = replicate 64 0xFF ++ from 0 64 ++ from 0 64 ++ from 0 64
 abbrev stores : List ℕ → List ℕ → List ℕ → Stores
 stores p l t = record { page = filled pageSize p; legends = filled legendSize l; tables = filled tableSize t }
 
--- A page by its first cells, with no legends; and with a legend.
+-- Document 01's cells: codes with the mark 0.
+abbrev plain : List ℕ → List ℕ
+plain cs = stored (map unruled cs)
+
+-- A page by its first codes, with no legends; and with a legend. A page by its first cells.
 abbrev page : List ℕ → Stores
-page p = stores p [] table0
+page p = stores (plain p) [] table0
 
 abbrev legend : List ℕ → List ℕ → Stores
-legend l p = stores p l table0
+legend l p = stores (plain p) l table0
+
+abbrev marked : List Cell → Stores
+marked cs = stores (stored cs) [] table0
 
 abbrev row : List Call → List Answer → List ℕ → Sense → State → Stores → Row
 row calls answers buffer sense s m = record { calls = calls; answers = answers; buffer = buffer; world = record { core = record { state = s; stores = m }; sense = sense } }
@@ -158,7 +168,7 @@ row calls answers buffer sense s m = record { calls = calls; answers = answers; 
 abbrev after : List Call → Call → Answer → Sense → State → Stores → Row
 after cs c a = row (cs ++ (c ∷ [])) (replicate (length cs) fine ++ (a ∷ [])) []
 
--- A line of C2 with 01 in its last cell.
+-- The codes of a line of C2 with 01 in its last cell.
 abbrev legended : List ℕ
 legended = 2 ∷ zeros (lineWidth - 2) ++ (1 ∷ [])
 
@@ -166,7 +176,7 @@ legended = 2 ∷ zeros (lineWidth - 2) ++ (1 ∷ [])
 abbrev r12 : ℕ → List ℕ → Row
 r12 n out =
     row (with 0x43 (2 ∷ 0 ∷ []) ∷ with 0x35 (2 ∷ 1 ∷ 1 ∷ 1 ∷ 0xCC ∷ 1 ∷ 0xC1 ∷ []) ∷ with 0x01 (0xC2 ∷ []) ∷ cmd 0x87 ∷ copy n ∷ [])
-    (fine ∷ fine ∷ fine ∷ completes 0 ∷ copied n 0 ∷ []) (filled copySize out) noSense (withCopies (on (waiting 1)) (pair 2 0 1))
+    (fine ∷ fine ∷ fine ∷ completes 0 ∷ copied n 0 ∷ []) (filled copySize (plain out)) noSense (withCopies (on (waiting 1)) (pair 2 0 1))
     (legend (2 ∷ 1 ∷ 1 ∷ 1 ∷ 0xCC ∷ 1 ∷ 1 ∷ []) (2 ∷ []))
 
 -- R1 to R12.
@@ -178,7 +188,7 @@ rows =
     ∷ after (with 0x01 (0xC1 ∷ []) ∷ []) (with 0x01 (0xC2 ∷ [])) checks (sense3 0x08 0x08 0) (on writing) (page (1 ∷ []))
     ∷ after (cmd 0x73 ∷ with 0x01 (0xC1 ∷ []) ∷ []) (with 0x01 (0xC2 ∷ [])) fine noSense (withBlocked (on writing) true) (page (1 ∷ []))
     -- R3
-    ∷ after (with 0x01 (0xC1 ∷ []) ∷ []) (with 0x01 (0x6D ∷ [])) fine noSense (on writing) (page (1 ∷ []))
+    ∷ after (with 0x01 (0xC1 ∷ []) ∷ []) (with 0x01 (0x6D ∷ [])) fine noSense (on writing) (marked (ruled 1 ∷ []))
     -- R4
     ∷ after [] (with 0x01 (0x3F ∷ [])) (telling 1 1 checks) (sense3 0x08 0x80 0) (on writing) (page [])
     -- R5
@@ -211,7 +221,7 @@ fromFive = with 0x43 (2 ∷ 1 ∷ []) ∷ with 0x23 (5 ∷ []) ∷ with 0x35 (6 
 
 abbrev composing : Call → Bool → ℕ → ℕ → List ℕ → Row
 composing c due n number out =
-    row (fromFive ++ (c ∷ copy n ∷ [])) (replicate 4 fine ++ (completes 0 ∷ copied number 1 ∷ [])) (filled copySize out) noSense
+    row (fromFive ++ (c ∷ copy n ∷ [])) (replicate 4 fine ++ (completes 0 ∷ copied number 1 ∷ [])) (filled copySize (plain out)) noSense
     (withCopies (on (sheet 1 false true due)) (pair 2 1 5)) (legend (6 ∷ 1 ∷ 1 ∷ 1 ∷ 0xCC ∷ 1 ∷ 1 ∷ []) (2 ∷ []))
 
 -- Channels 9 and 12 on lines 2 and 3; channel 5 on line 5.
@@ -261,7 +271,7 @@ ours =
     -- Initialize leaves the legends of the page that it has just completed; after its Release they are gone, with sequence and number.
     ∷ composing (cmd 0x37) true 2 6 legended
     ∷ row (fromFive ++ (cmd 0x37 ∷ release ∷ with 0x01 (0xC3 ∷ []) ∷ cmd 0x87 ∷ copy 1 ∷ [])) (replicate 4 fine ++ (completes 0 ∷ freed ∷ fine ∷ completes 0 ∷ copied 1 0 ∷ []))
-    (filled copySize (3 ∷ [])) noSense (out (on (waiting 1))) (page (3 ∷ []))
+    (filled copySize (plain (3 ∷ []))) noSense (out (on (waiting 1))) (page (3 ∷ []))
     -- A reset forgets the selection, and keeps the check switch; so does the reset that a Release does.
     ∷ after (cmd 0x57 ∷ cmd 0x37 ∷ []) (with 0x01 (0xC1 ∷ [])) fine noSense (on writing) (page (1 ∷ []))
     ∷ after (cmd 0x73 ∷ cmd 0x37 ∷ []) (with 0x01 (0x3F ∷ [])) (telling 1 1 fine) noSense (withBlocked (on writing) true) (page [])
@@ -272,15 +282,15 @@ ours =
     (out (withForms (on (at 5)) (fcb channel5))) (page [])
     -- Copy numbers and segments run up to 509, unreduced, with the mark of the copy's pair.
     ∷ row (with 0x43 (0xFE ∷ 0 ∷ 1 ∷ 1 ∷ []) ∷ with 0x23 (0xFF ∷ []) ∷ with 0x35 (0xFF ∷ 0xFF ∷ 1 ∷ 1 ∷ 1 ∷ 1 ∷ 0xC1 ∷ []) ∷ with 0x01 (0xC2 ∷ []) ∷ cmd 0x87 ∷ copy 255 ∷ [])
-    (replicate 4 fine ++ (completes 0 ∷ copied 509 1 ∷ [])) (filled copySize (1 ∷ [])) noSense
+    (replicate 4 fine ++ (completes 0 ∷ copied 509 1 ∷ [])) (filled copySize (plain (1 ∷ []))) noSense
     (withCopies (on (waiting 1)) (record { pairs = filled pairSize (0xFE ∷ 0 ∷ 1 ∷ 1 ∷ []); count = 4; reference = 0xFF })) (legend (0xFF ∷ 0xFF ∷ 1 ∷ 1 ∷ 1 ∷ 1 ∷ 1 ∷ []) (2 ∷ []))
     -- The last segment that covers a cell wins, with a blank too.
     ∷ row (with 0x35 (1 ∷ 1 ∷ 1 ∷ 1 ∷ 1 ∷ 2 ∷ 0xC1 ∷ 0xC2 ∷ 1 ∷ 1 ∷ 1 ∷ 1 ∷ 2 ∷ 1 ∷ 0x40 ∷ []) ∷ with 0x01 (0xC3 ∷ 0xC3 ∷ []) ∷ cmd 0x87 ∷ copy 1 ∷ []) (fine ∷ fine ∷ completes 0 ∷ copied 1 0 ∷ [])
-    (filled copySize (1 ∷ [])) noSense (on (waiting 1)) (legend (1 ∷ 1 ∷ 1 ∷ 1 ∷ 1 ∷ 2 ∷ 1 ∷ 2 ∷ 1 ∷ 1 ∷ 1 ∷ 1 ∷ 2 ∷ 1 ∷ 0 ∷ []) (3 ∷ 3 ∷ []))
+    (filled copySize (plain (1 ∷ []))) noSense (on (waiting 1)) (legend (1 ∷ 1 ∷ 1 ∷ 1 ∷ 1 ∷ 2 ∷ 1 ∷ 2 ∷ 1 ∷ 1 ∷ 1 ∷ 1 ∷ 2 ∷ 1 ∷ 0 ∷ []) (3 ∷ 3 ∷ []))
     -- The page after a Release begins empty and is a page of its own.
     ∷ row (with 0x09 (0xC1 ∷ []) ∷ with 0x09 (0xC1 ∷ []) ∷ cmd 0x87 ∷ release ∷ with 0x01 (0xC2 ∷ []) ∷ cmd 0x87 ∷ copy 1 ∷ [])
-    (says Accepted 0x0C false 1 ∷ says Accepted 0x0C false 1 ∷ completes 0 ∷ freed ∷ fine ∷ completes 0 ∷ copied 1 0 ∷ []) (filled copySize (2 ∷ [])) noSense (out (on (waiting 1))) (page (2 ∷ []))
-    -- A line that is left takes its mark with it.
+    (says Accepted 0x0C false 1 ∷ says Accepted 0x0C false 1 ∷ completes 0 ∷ freed ∷ fine ∷ completes 0 ∷ copied 1 0 ∷ []) (filled copySize (plain (2 ∷ []))) noSense (out (on (waiting 1))) (page (2 ∷ []))
+    -- A line that is left is no longer marked as written.
     ∷ after [] (with 0x09 (0xC1 ∷ [])) (says Accepted 0x0C false 1) noSense (on (at 2)) (page (1 ∷ []))
     -- A load on a started page is refused and has not moved the form.
     ∷ row (cmd 0x0B ∷ with 0x63 (zeros 21) ∷ []) (says Accepted 0x0C false 1 ∷ says PageStarted 0x0E false 0 ∷ []) [] (sense3 0x02 0 0) (on (at 2)) (page [])
@@ -296,10 +306,22 @@ ours =
     ∷ after (with 0x63 channels ∷ []) (cmd 0xCB) (says Accepted 0x0C false 1) noSense (withForms (on (at 2)) (fcb channels)) (page [])
     -- A code of a module not fitted gets the table's code for 40, and so does the fill.
     ∷ after (with 0x83 (filled slotSize someTable) ∷ []) (with 0x01 (0xC1 ∷ 0xC2 ∷ [])) (telling 1 1 checks) (sense3 0x08 0x80 0) (pitched (10 ∷ 0 ∷ 0 ∷ 10 ∷ []) writing)
-    (stores (0xC5 ∷ 0 ∷ replicate (lineWidth - 2) 0xC5) [] someTable)
+    (stores (plain (0xC5 ∷ 0 ∷ replicate (lineWidth - 2) 0xC5)) [] someTable)
+    -- Sense replies 24 bytes, then clears; the byte after them keeps its value.
+    ∷ row (with 0x63 (zeros 18) ∷ senseIo ∷ []) (says (LoadCheck FcbSum) 0x0E false 0 ∷ fine ∷ []) (0x02 ∷ 0x08 ∷ 0 ∷ 0xC0 ∷ zeros 18 ++ (0 ∷ 0x12 ∷ 9 ∷ [])) noSense (on (at 1)) (page [])
+    -- Byte 3 is 80, plus 40 when no page is started or waiting, plus 20 when Block is on.
+    ∷ sensing [] [] 0xC0 (on (at 1))
+    ∷ sensing (cmd 0x0B ∷ []) (says Accepted 0x0C false 1 ∷ []) 0x80 (on (at 2))
+    ∷ sensing (cmd 0x0B ∷ cmd 0x87 ∷ []) (says Accepted 0x0C false 1 ∷ completes 0 ∷ []) 0x80 (on (waiting 1))
+    ∷ sensing (cmd 0x73 ∷ []) (fine ∷ []) 0xE0 (withBlocked (on (at 1)) true)
+    ∷ []
+
+-- Rows for the requests of document 02 that have landed.
+unfoldable pub requests : List Row
+requests =
     -- T-01: the first unprintable position and how many, Block or no Block; the fill, which the table makes FF, does not count; table 0 decides for an
     -- unloaded one.
-    ∷ after [] (with 0x01 (0xC1 ∷ 0x3F ∷ 0xC2 ∷ 0x00 ∷ [])) (telling 2 2 checks) (sense3 0x08 0x80 0) (on writing) (page (1 ∷ 0 ∷ 2 ∷ []))
+    after [] (with 0x01 (0xC1 ∷ 0x3F ∷ 0xC2 ∷ 0x00 ∷ [])) (telling 2 2 checks) (sense3 0x08 0x80 0) (on writing) (page (1 ∷ 0 ∷ 2 ∷ []))
     ∷ after (cmd 0x73 ∷ []) (with 0x01 (0xC1 ∷ 0x3F ∷ 0xC2 ∷ 0x00 ∷ [])) (telling 2 2 fine) noSense (withBlocked (on writing) true) (page (1 ∷ 0 ∷ 2 ∷ []))
     ∷ after (with 0x83 (filled slotSize blankless) ∷ []) (with 0x01 (0xC1 ∷ [])) fine noSense (on writing) (stores [] [] blankless)
     ∷ after (cmd 0x57 ∷ []) (with 0x01 (0xC1 ∷ 0x3F ∷ [])) (telling 2 1 checks) (sense3 0x08 0xA0 0) (withSlots (on writing) (slot 1)) (page (1 ∷ []))
@@ -309,15 +331,6 @@ ours =
     ∷ after (cmd 0x73 ∷ []) (with 0x35 threeTexts) (telling 2 3 fine) noSense (withBlocked (on (at 1)) true) (legend threeStored [])
     ∷ after (cmd 0x57 ∷ []) (with 0x35 threeTexts) (telling 2 3 checks) (sense3 0x08 0xA0 0) (withSlots (on (at 1)) (slot 1)) (legend threeStored [])
     ∷ after [] (with 0x35 (threeTexts ++ (1 ∷ []))) (says (LoadCheck SegmentEnds) 0x0E false 0) (sense3 0x02 0x80 0) (on (at 1)) (page [])
-    -- Underscore then character, blank then code, code then blank, two underscores.
-    ∷ after (with 0x01 (0x6D ∷ 0x40 ∷ 0xC1 ∷ 0x6D ∷ []) ∷ []) (with 0x01 (0xC1 ∷ 0xC2 ∷ 0x40 ∷ 0x6D ∷ [])) fine noSense (on writing) (page (1 ∷ 2 ∷ 1 ∷ 0x2D ∷ []))
-    -- Sense replies 24 bytes, then clears; the byte after them keeps its value.
-    ∷ row (with 0x63 (zeros 18) ∷ senseIo ∷ []) (says (LoadCheck FcbSum) 0x0E false 0 ∷ fine ∷ []) (0x02 ∷ 0x08 ∷ 0 ∷ 0xC0 ∷ zeros 18 ++ (0 ∷ 0x12 ∷ 9 ∷ [])) noSense (on (at 1)) (page [])
-    -- Byte 3 is 80, plus 40 when no page is started or waiting, plus 20 when Block is on.
-    ∷ sensing [] [] 0xC0 (on (at 1))
-    ∷ sensing (cmd 0x0B ∷ []) (says Accepted 0x0C false 1 ∷ []) 0x80 (on (at 2))
-    ∷ sensing (cmd 0x0B ∷ cmd 0x87 ∷ []) (says Accepted 0x0C false 1 ∷ completes 0 ∷ []) 0x80 (on (waiting 1))
-    ∷ sensing (cmd 0x73 ∷ []) (fine ∷ []) 0xE0 (withBlocked (on (at 1)) true)
     -- T-02: a page passes the three stations; none passes where there is none, and the sense is kept.
     ∷ row (onePage ++ (tally Transferred ∷ tally Fused ∷ tally Stacked ∷ [])) (released ++ (freed ∷ freed ∷ freed ∷ [])) [] noSense (passed 1 1 1 1 (on (at 1))) (page [])
     ∷ row (cmd 0xFF ∷ tally Transferred ∷ tally Fused ∷ tally Stacked ∷ []) (says NotListed 0x0E false 0 ∷ none ∷ none ∷ none ∷ []) [] (sense3 0x80 0x80 0) (on (at 1)) (page [])
@@ -329,6 +342,19 @@ ours =
     -- The counters live through both resets.
     ∷ row (onePage ++ (tally Transferred ∷ with 0x37 [] ∷ with 0x01 (0xC2 ∷ []) ∷ cmd 0x37 ∷ release ∷ [])) (released ++ (freed ∷ fine ∷ fine ∷ completes 0 ∷ freed ∷ [])) [] noSense
     (passed 2 1 0 0 (on (at 1))) (page [])
+    -- T-03: underscore then character, blank then code, code then blank, two underscores, blank with underscore either way round: the first alone sets a mark.
+    ∷ after (with 0x01 (0x6D ∷ 0x40 ∷ 0xC1 ∷ 0x6D ∷ 0x40 ∷ 0x6D ∷ []) ∷ []) (with 0x01 (0xC1 ∷ 0xC2 ∷ 0x40 ∷ 0x6D ∷ 0x6D ∷ 0x40 ∷ [])) fine noSense (on writing)
+    (marked (ruled 1 ∷ unruled 2 ∷ unruled 1 ∷ unruled 0x2D ∷ unruled 0x2D ∷ unruled 0x2D ∷ []))
+    -- A third write keeps the marks: a blank, an underscore, the same character, another one, and the fill.
+    ∷ after (with 0x01 (replicate 5 0xC1) ∷ with 0x01 (replicate 5 0x6D) ∷ []) (with 0x01 (0x40 ∷ 0x6D ∷ 0xC1 ∷ 0xC2 ∷ [])) checks (sense3 0x08 0x08 0) (on writing)
+    (marked (replicate 5 (ruled 1)))
+    -- A copy shows the page's marks; a legend's cell has none, with the page's own code too.
+    ∷ row (with 0x35 (1 ∷ 1 ∷ 1 ∷ 1 ∷ 1 ∷ 2 ∷ 0xC1 ∷ 0xC2 ∷ []) ∷ with 0x01 (replicate 3 0xC1) ∷ with 0x01 (replicate 3 0x6D) ∷ cmd 0x87 ∷ copy 1 ∷ [])
+    (replicate 3 fine ++ (completes 0 ∷ copied 1 0 ∷ [])) (filled copySize (stored (unruled 1 ∷ unruled 2 ∷ ruled 1 ∷ []))) noSense (on (waiting 1))
+    (stores (stored (replicate 3 (ruled 1))) (1 ∷ 1 ∷ 1 ∷ 1 ∷ 1 ∷ 2 ∷ 1 ∷ 2 ∷ []) table0)
+    -- A released page takes its marks with it.
+    ∷ row (with 0x01 (0xC1 ∷ []) ∷ with 0x01 (0x6D ∷ []) ∷ cmd 0x87 ∷ release ∷ with 0x01 (0xC1 ∷ []) ∷ with 0x01 (0xC1 ∷ []) ∷ [])
+    (fine ∷ fine ∷ completes 0 ∷ freed ∷ fine ∷ fine ∷ []) [] noSense (out (on writing)) (page (1 ∷ []))
     ∷ []
 
 -- A refused Start: all zeros, and the stores as they were.
@@ -363,13 +389,25 @@ lists =
     ∷ list (with 0x01 (0xC1 ∷ []) ∷ cmd 0x37 ∷ []) false 0 (commanded 0x01 (0xC1 ∷ []) ∷ commanded 0x37 [] ∷ [])
     ∷ []
 
-abbrev seen : Counted → Counted
+unfoldable pub seen : Counted → Counted
 seen l = let s = sinceReset (begun tens) (l .calls) in record { calls = l .calls; kept = s .kept; deeds = s .deeds }
 
 -- Lists of calls go from the first call to the last.
 abbrev spaceThenClear : World
 spaceThenClear = worldAfter (begun tens) (cmd 0x0B ∷ cmd 0x87 ∷ [])
 
-pub table : (map see (rows ++ ours) ≡ rows ++ ours) × (map seen lists ≡ lists) × (spaceThenClear .core .state .sheet ≡ waiting 1)
-unfolding rows ours lists ran flatten zipWith when firstOr every padded causeOf rowOf isAccepted checked isSound formLengths pitchesListed pitchesOk formOk unitsOf runsFrom runs unitsTotal linesWhere printable edges fcbCheck layoutCheck layoutOf channelAt startFcb formsOf formsInRange entered round upToFirst spaced skipped moved still toTop slotAt putSlot isLoaded serving unprintable standIn cellOf translated unprintableAt lineCells mergeRules mergeCell collides mergeLine anyCollides lineAt putLine pageWritten noCauses textCauses lineCauses orUnmatched causeByte startTable startTables startSlots slotsInRange tableCheck pairsOf copiesOf sequenceCheck markIn numberCheck withSequence withReference startCopies copyCount copyNumber copyMark copiesInRange segmentOf badHead cut segments legendCheck storedLegends unprintableInTexts storedSegments legendsOk noLegends covers shown copyFrom composed sizesOk linesNow started codes lookUp decode controlTraits traitsOf lineOk rangesOk dueOk writtenOk coreOk blankSheet noCells resetState resetStores reset fresh byte3 senseBytes refused done movedSheet moveOf doMove writtenSheet written writeCauses doWrite loadCheck atLine1 slotLoaded slotSelected loaded loadCauses doLoad completing doControl doCommand checkOf movement refusalOf copyAt doCompose pageCounted emptied releasedCore doRelease tallying doTally counted tallied transferred fused stacked cancelled restarted noneBetween countersOk perform effect step startRefusal startWorld noState noPrinter startOutcome worldAfter counts readOf deedOf finishesReset sinceNow note sinceOver sinceReset copiesOfPage given
-table = (refl, refl, refl)
+pub rows-table : map see rows ≡ rows
+unfolding see rows
+rows-table = refl
+
+pub ours-table : map see ours ≡ ours
+unfolding see ours
+ours-table = refl
+
+pub requests-table : map see requests ≡ requests
+unfolding see requests
+requests-table = refl
+
+pub lists-table : (map seen lists ≡ lists) × (spaceThenClear .core .state .sheet ≡ waiting 1)
+unfolding see seen lists
+lists-table = (refl, refl)

@@ -1,6 +1,6 @@
--- Document 01, "Numbers": contents no printer has, clause by clause in the paper's order; T-02's clause, about the page counters, comes last.
--- Every definition here is of that section. No clause looks at the sense, at a cell, at a table's byte or at legend text: all of these
--- are allowed.
+-- Document 01, "Numbers": contents no printer has, clause by clause in the paper's order; T-02's clause, about the page counters, and
+-- T-03's, about rule marks, come last. Every definition here is of that section. No clause looks at the sense, at a cell's code, at a table's byte or at
+-- legend text: all of these are allowed.
 use Prim.Native.Nat.{ℕ}
 use mathlib.Core.Bool.{Bool, not, _&&_, _||_}
 use mathlib.Core.List.{List, [], _∷_}
@@ -8,6 +8,7 @@ use lib.Dec.{leb}
 use Rattle.seq.specs.Words.{every}
 use Rattle.numbers.specs.Numbers.{isSound}
 use Rattle.form.specs.Form.{formOk, fcbCheck, fcbNow, formsInRange}
+use Rattle.line.specs.Cells.{marksOk}
 use Rattle.line.specs.Line.{slotsInRange}
 use Rattle.copies.specs.Copies.{sequenceCheck, sequenceNow, copiesInRange}
 use Rattle.legends.specs.Legends.{legendsOk}
@@ -56,6 +57,7 @@ clauses k =
     ∷ sequenceOk (k .state)
     ∷ legendsOk (k .stores .legends)
     ∷ countersOk (k .state .counters)
+    ∷ marksOk (k .stores .page)
     ∷ []
 
 unfoldable pub coreOk : Core → Bool

@@ -20,7 +20,7 @@ use Rattle.form.specs.Form.{fcbCheck, formsOf}
 use Rattle.movement.specs.Movement.{moved, still, toTop}
 use Rattle.line.specs.declared.Slots.{Slots}
 use Rattle.line.specs.declared.Causes.{Causes}
-use Rattle.line.specs.Line.{putSlot, serving, translated, unprintableAt, lineCells, lineAt, pageWritten, noCauses, textCauses, lineCauses, orUnmatched, causeByte}
+use Rattle.line.specs.Line.{putSlot, serving, translated, unprintableAt, lineCodes, lineAt, pageWritten, noCauses, textCauses, lineCauses, orUnmatched, causeByte}
 use Rattle.copies.specs.Copies.{tableCheck, sequenceCheck, numberCheck, withSequence, withReference}
 use Rattle.legends.specs.Legends.{legendCheck, storedLegends, unprintableInTexts}
 use Rattle.calls.specs.declared.Sheet.{Sheet}
@@ -90,15 +90,15 @@ moveOf s m = moved (linesNow s) (s .sheet .line) m
 unfoldable pub doMove : Core → Motion → Effect
 doMove k m = let mv = moveOf (k .state) m in done (movedCore false k mv) (orUnmatched noCauses (mv .missed)) mv
 
--- Writing a line, before movement: the record's cells go on the current line, and the line is written, whatever they are.
+-- Writing a line, before movement: the record's codes go on the current line, and the line is written, whatever they are.
 unfoldable pub writtenSheet : Sheet → Sheet
 writtenSheet s = record { line = s .line; written = true; waiting = s .waiting; due = s .due }
 
 unfoldable pub written : Core → List ℕ → Core
 written k r =
     let s = k .state .sheet in
-    let cells = lineCells (k .state .fixed .pitches) (serving (k .state .slots) (k .stores .tables)) r in
-    withPage (withState k (withSheet (k .state) (writtenSheet s))) (pageWritten (s .written) (s .line) cells (k .stores .page))
+    let codes = lineCodes (k .state .fixed .pitches) (serving (k .state .slots) (k .stores .tables)) r in
+    withPage (withState k (withSheet (k .state) (writtenSheet s))) (pageWritten (s .written) (s .line) codes (k .stores .page))
 
 unfoldable pub writeCauses : Core → List ℕ → Causes
 writeCauses k r =

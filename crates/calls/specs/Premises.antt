@@ -10,6 +10,7 @@ use Rattle.numbers.specs.Sizes.{lineBytes, pageSize, legendSize, tableSize, sen
 use Rattle.numbers.specs.declared.Checked.the-variants.{Sound}
 use Rattle.form.specs.declared.Forms.{Forms}
 use Rattle.form.specs.Form.{formOk, fcbCheck, fcbSize, fcbNow, formsInRange}
+use Rattle.line.specs.Cells.{marksOk}
 use Rattle.line.specs.Line.{slotsInRange}
 use Rattle.copies.specs.declared.Copies.{Copies}
 use Rattle.copies.specs.Copies.{sequenceCheck, pairSize, sequenceNow, copyCount, copiesInRange}
@@ -57,6 +58,7 @@ pub record Good (k : Core) : Type 0 where
   pub sheet : SheetGood (P (k .state)) (k .state .sheet)
   pub legends : legendsOk (k .stores .legends) ≡ true
   pub counters : countersOk (k .state .counters) ≡ true
+  pub marks : marksOk (k .stores .page) ≡ true
 
 -- No page waits.
 abbrev pub Free : Core → Type 0

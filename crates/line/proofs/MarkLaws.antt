@@ -1,8 +1,8 @@
 -- Bad marks: those of a part, and those that words put together by `|` keep.
 use Prim.Native.Nat.{ℕ, suc, _+_, _*_, _%_, _^_, _≤_, _<_}
 use mathlib.Core.Path.{_≡_, refl, sym, ap, _∙_}
-use mathlib.Core.Bool.{Bool, true, false, _||_, or-assoc}
-use mathlib.Core.List.{List}
+use mathlib.Core.Bool.{Bool, true, false, not, _&&_, _||_, or-assoc}
+use mathlib.Core.List.{List, [], _∷_}
 use native.Mathlib.Omega.{arith}
 use lib.Bits.{bitOr, or-lt, or-mod, or-add-and, and-le-l, and-le-r}
 use lib.ListN.{length, getD, take, drop}
@@ -11,9 +11,20 @@ use borrow.Author.Tests.{ltb-true, ltb-false, lt-ltb, le-ltb}
 use Rattle.seq.specs.Words.{any}
 use Rattle.seq.proofs.Loops.{any-more}
 use Rattle.line.specs.declared.Cell.{Cell}
-use Rattle.line.specs.Cells.{unruled, cellsIn, badMark}
+use Rattle.line.specs.Cells.{unruled, cellsIn, badMark, marksOk}
 use Rattle.line.specs.Scan.{badWord}
 use Rattle.line.proofs.StoredLaws.{length-cells, cell-at, cells-take, cells-drop}
+
+-- Good marks are those of cells of which none is bad.
+pub marks-by-cells : (bs : List ℕ) → marksOk bs ≡ not (any badMark (cellsIn bs))
+unfolding marksOk cellsIn
+marks-by-cells [] = refl
+marks-by-cells (c ∷ []) = refl
+marks-by-cells (c ∷ m ∷ bs) = go (ltb 1 m) (marksOk bs) (any badMark (cellsIn bs)) (marks-by-cells bs)
+  where
+    go : (t x y : Bool) → x ≡ not y → (not t && x) ≡ not (t || y)
+    go true x y e = refl
+    go false x y e = e
 
 -- the cells of a part that starts at cell k and has n cells
 pub cells-part : (k n : ℕ) (s : List ℕ) → cellsIn (take (2 * n) (drop (2 * k) s)) ≡ take n (drop k (cellsIn s))

@@ -16,6 +16,7 @@ use Rattle.line.specs.Cells.{unruled, ruled, stored, cellsIn, badMark, m
 use Rattle.line.specs.Line.{isBlank, isUnderscore, mergeRules, mergeCell, isNone, collides, mergeLine, cellsAfter, lineAt, putLine, pageWritten}
 use Rattle.line.specs.Rules.{makesRule, codeRules, mergeCode, codesCollide, codesIn, codesWritten}
 use Rattle.line.proofs.StoredLaws.{cells-put, cells-take, cells-drop}
+use Rattle.line.proofs.MarkLaws.{marks-by-cells}
 use Rattle.line.proofs.CellLaws.{merge-by-tests}
 use Rattle.line.proofs.LineLaws.{length-lineAt, length-cellsAfter}
 
@@ -148,8 +149,7 @@ any-drop : {A : Type 0} (f : A → Bool) (n : ℕ) (xs : List A) → any f xs �
 any-drop f n xs e = or-right (any f (take n xs)) _ (sym (any-split f n xs) ∙ e)
 
 none-bad : (p : List ℕ) → marksOk p ≡ true → any badMark (cellsIn p) ≡ false
-unfolding marksOk
-none-bad p e = go (any badMark (cellsIn p)) e
+none-bad p e = go (any badMark (cellsIn p)) (sym (marks-by-cells p) ∙ e)
   where
     go : (t : Bool) → not t ≡ true → t ≡ false
     go true e = absurd (true≢false (sym e))
@@ -157,23 +157,20 @@ none-bad p e = go (any badMark (cellsIn p)) e
 
 pub marks-written : (later : Bool) (l : ℕ) (new p : List ℕ) → 1 ≤ l → lineBytes * l ≤ length p → length new ≡ lineWidth → marksOk p ≡ true
     → marksOk (pageWritten later l new p) ≡ true
-unfolding marksOk
 marks-written later l new p first inside size e =
     let none = none-bad p e in
     let at = lineWidth * (l - 1) in
     let after = drop at (cellsIn p) in
     let rest = any-drop badMark at (cellsIn p) none in
     let good = line-good later (lineAt l p) new (ap (any badMark) (line-cells l p) ∙ any-take badMark lineWidth after rest) in
-    ap not
+    marks-by-cells (pageWritten later l new p)
+    ∙ ap not
     (ap (any badMark) (cells-written later l new p first inside size) ∙ any-append badMark (take at (cellsIn p)) _
     ∙ (λ i. any-take badMark at (cellsIn p) none i || any-append badMark (cellsAfter later (lineAt l p) new) (drop lineWidth after) i)
     ∙ (λ i. good i || any-drop badMark lineWidth after rest i))
 
 pub marks-none : (n : ℕ) → marksOk (replicate n 0) ≡ true
-unfolding marksOk cellsIn
-marks-none n = ap not (go n)
-  where
-    go : (n : ℕ) → any badMark (cellsIn (replicate n 0)) ≡ false
-    go zero = refl
-    go (suc zero) = refl
-    go (suc (suc n)) = go n
+unfolding marksOk
+marks-none zero = refl
+marks-none (suc zero) = refl
+marks-none (suc (suc n)) = marks-none n

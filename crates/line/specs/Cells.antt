@@ -1,6 +1,6 @@
 -- Document 02, T-03: a stored cell is two bytes, its code and its rule mark. The cells of the page and of a composed copy are such.
 use Prim.Native.Nat.{ℕ}
-use mathlib.Core.Bool.{Bool, not}
+use mathlib.Core.Bool.{Bool, true, not, _&&_}
 use mathlib.Core.List.{List, [], _∷_}
 use lib.Dec.{ltb}
 use Rattle.seq.specs.Words.{any}
@@ -28,4 +28,6 @@ abbrev pub badMark : Cell → Bool
 badMark c = ltb 1 (c .mark)
 
 unfoldable pub marksOk : List ℕ → Bool
-marksOk page = not (any badMark (cellsIn page))
+marksOk [] = true
+marksOk (c ∷ []) = true
+marksOk (c ∷ m ∷ bs) = not (ltb 1 m) && marksOk bs

@@ -9,9 +9,9 @@ use lib.Seq.{take-all}
 use borrow.Author.Needs.{needs}
 use Rattle.seq.specs.Words.{any}
 use Rattle.seq.proofs.Loops.{any-rest, any-fewer, any-block, any-here}
-use Rattle.line.specs.Cells.{cellsIn, badMark, marksOk}
+use Rattle.line.specs.Cells.{cellsIn, badMark}
 use Rattle.line.proofs.StoredLaws.{length-cells}
-use Rattle.line.proofs.MarkLaws.{cells-part}
+use Rattle.line.proofs.MarkLaws.{marks-by-cells, cells-part}
 use Rattle.line.proofs.marks.marks_ok.Statement.{statement}
 use Rattle.line.proofs.marks.marks_ok.Tie as tie
 
@@ -28,18 +28,16 @@ loop-holds c = (search needs, (refl, refl))
 told : (c : tie.After-any-bad Inv-loop μ-loop)
     → (let at = c .before .before .before in
     c .any-bad .result ≡ any badMark (take 512 (drop (at .loop .cell) (cellsIn (at .before .before .args .page .now)))))
-unfolding marksOk
 told c =
     let at = c .before .before .before in
     let e = simp add-sub-cancel-left at (c .any-bad .ensures) in
     e ∙ ap (any badMark) (cells-part (at .loop .cell) 512 (at .before .before .args .page .now))
 
 returns : tie.Need-returns Inv-loop μ-loop
-unfolding marksOk
 returns c =
     let at = c .before .before .before .before in
-    let s = cellsIn (at .before .before .args .page .now) in
-    ap not (sym (any-here badMark (at .loop .cell) s (at .loop .inv .1 .1) 512 (sym (told (c .before)) ∙ c .if1 .taken)))
+    let page = at .before .before .args .page .now in
+    sym (marks-by-cells page ∙ ap not (any-here badMark (at .loop .cell) (cellsIn page) (at .loop .inv .1 .1) 512 (sym (told (c .before)) ∙ c .if1 .taken)))
 
 loop-again : tie.Need-loop-again Inv-loop μ-loop
 loop-again c =
@@ -48,7 +46,6 @@ loop-again c =
     (search needs, (refl, any-block badMark (at .loop .cell) s (at .loop .inv .1 .1) 512 (sym (told (c .before)) ∙ c .if1 .left)))
 
 returns-2 : tie.Need-returns-2 Inv-loop μ-loop
-unfolding marksOk
 returns-2 c =
     let at = c .before .before .before in
     let page = at .before .before .args .page .now in
@@ -61,6 +58,7 @@ returns-2 c =
     ap not
     (e ∙ ap (any badMark) (cells-part h 512 page ∙ take-all 512 (drop h s) (omega (arith, length-drop h s, length-cells page)))
     ∙ sym (any-rest badMark h s (any-fewer badMark (at .loop .cell) s (at .loop .inv .1 .1) h before)))
+    ∙ sym (marks-by-cells page)
 
 pub marks-ok-spec : {M : Type 1} → statement M
 marks-ok-spec =
