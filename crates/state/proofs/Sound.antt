@@ -6,6 +6,7 @@ use mathlib.Core.List.{List}
 use lib.ListN.{length}
 use Rattle.seq.specs.Words.{every}
 use Rattle.form.specs.Form.{formOk, formsInRange}
+use Rattle.line.specs.Cells.{marksOk}
 use Rattle.line.specs.Line.{slotsInRange}
 use Rattle.copies.specs.Copies.{copiesInRange}
 use Rattle.legends.specs.Legends.{legendsOk}
@@ -19,7 +20,7 @@ use Rattle.state.specs.State.{stateAt, coreAt, readable}
 use Rattle.state.proofs.Round.{readable-size}
 use Rattle.state.specs.Contents.{soundBytes, stateOk, fieldsOk, copiesOk, formsLineOk}
 
--- fixed, slots, due, mark, counters; copies, sequence; forms, line, FCB
+-- fixed, slots, due, written, counters; copies, sequence; forms, line, FCB
 regroup : (f s d m n c q i l b : Bool)
     → ((f && (i && (s && (c && l)))) && (d && (m && (b && (q && n))))) ≡ ((f && (s && (d && (m && n)))) && ((c && q) && (i && (l && b))))
 regroup false s d m n c q i l b = refl
@@ -42,24 +43,26 @@ state-parts s =
     (regroup fixed (slotsInRange (s .slots)) (dueOk x) (writtenOk x) (countersOk (s .counters)) (copiesInRange (s .copies)) (sequenceOk s)
     (formsInRange (s .forms)) (lineOk (P s) x) (formsOk s))
 
--- readable, sizes; ranges, due, mark, FCB, sequence; legends; counters
-reorder : (r z a d m b q l n : Bool)
-    → (r && (z && (a && (d && (m && (b && (q && (l && n)))))))) ≡ (z && (r && ((a && (d && (m && (b && (q && n))))) && l)))
-reorder r false a d m b q l n = and-false r
-reorder r true false d m b q l n = refl
-reorder r true true false m b q l n = refl
-reorder r true true true false b q l n = refl
-reorder r true true true true false q l n = refl
-reorder r true true true true true false l n = refl
-reorder r true true true true true true true n = simp and-true
-reorder r true true true true true true false n = simp and-false
+-- readable, sizes; ranges, due, written, FCB, sequence; legends; counters; the page's marks
+reorder : (r z a d m b q l n p : Bool)
+    → (r && (z && (a && (d && (m && (b && (q && (l && (n && p))))))))) ≡ (z && (r && ((a && (d && (m && (b && (q && n))))) && (l && p))))
+reorder r false a d m b q l n p = and-false r
+reorder r true false d m b q l n p = refl
+reorder r true true false m b q l n p = refl
+reorder r true true true false b q l n p = refl
+reorder r true true true true false q l n p = refl
+reorder r true true true true true false l n p = refl
+reorder r true true true true true true true false p = refl
+reorder r true true true true true true true true p = refl
+reorder r true true true true true true false false p = refl
+reorder r true true true true true true false true p = refl
 
-pub sound-parts : (s : List ℕ) (m : Stores) → soundBytes s m ≡ (sizesOk m && (readable s && (stateOk (stateAt s) && legendsOk (m .legends))))
+pub sound-parts : (s : List ℕ) (m : Stores) → soundBytes s m ≡ (sizesOk m && (readable s && (stateOk (stateAt s) && (legendsOk (m .legends) && marksOk (m .page)))))
 unfolding soundBytes coreOk stateOk every
 sound-parts s m =
     let p = stateAt s in
     simp and-true
-    (reorder (readable s) (sizesOk m) (rangesOk p) (dueOk (p .sheet)) (writtenOk (p .sheet)) (formsOk p) (sequenceOk p) (legendsOk (m .legends)) (countersOk (p .counters)))
+    (reorder (readable s) (sizesOk m) (rangesOk p) (dueOk (p .sheet)) (writtenOk (p .sheet)) (formsOk p) (sequenceOk p) (legendsOk (m .legends)) (countersOk (p .counters)) (marksOk (m .page)))
 
 -- Sound bytes stand for a printer, and are as many as a state has; its contents are good.
 pub sound-read : (s : List ℕ) (m : Stores) → soundBytes s m ≡ true → readable s ≡ true

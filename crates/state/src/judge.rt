@@ -152,7 +152,7 @@ fn judge_state(s: &[u8]) -> Found
     }
 }
 
-// Number 9, for every call but Start. It returns at the first part that is bad; the legends, which are the longest, come last.
+// Number 9, for every call but Start. It returns at the first part that is bad; the legends and the page's marks, which are the longest, come last.
 pub fn judge(state: &[u8], page: &[u8], legends: &[u8], tables: &[u8]) -> Found
     ensures sound { λ r. ⌜ r .sound
         ≡ soundBytes (now (state .entry)) (storesOf (now (page .entry)) (now (legends .entry)) (now (tables .entry))) ⌝ }
@@ -170,7 +170,7 @@ pub fn judge(state: &[u8], page: &[u8], legends: &[u8], tables: &[u8]) -> Found
     }
     let form = found.form;
     Found {
-        sound: legends::legends_ok(legends),
+        sound: legends::legends_ok(legends) & line::marks::marks_ok(page),
         form: form,
     }
 }

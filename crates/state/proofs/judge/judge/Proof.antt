@@ -1,6 +1,7 @@
--- The four parts of `sound-parts`; it returns at the first that is bad.
-use mathlib.Core.Path.{_≡_, sym, _∙_}
+-- The five parts of `sound-parts`; it returns at the first that is bad.
+use mathlib.Core.Path.{_≡_, refl, sym, _∙_}
 use mathlib.Core.Bool.{true, false≢true}
+use native.Mathlib.Omega.{arith}
 use borrow.Author.Tests.{not-true, not-false}
 use Rattle.calls.specs.Core.{storesOf, sizesOk}
 use Rattle.calls.proofs.Good.{sizes-good}
@@ -24,7 +25,12 @@ returns-3 : tie.Need-returns-3
 returns-3 c = (rw (sound-parts, sizes (c .before .before .before .before .before), flags (c .before .before .before), sym (c .before .before .judge-state .ensures .0) ∙ not-true _ (c .if3 .taken)), λ e. absurd (false≢true e))
 
 returns-4 : tie.Need-returns-4
-returns-4 c = (rw (sound-parts, sizes (c .before .before .before .before .before .before .before), flags (c .before .before .before .before .before), sym (c .before .before .before .before .judge-state .ensures .0) ∙ sound (c .before .before)) (c .legends-ok .ensures), λ e. c .before .before .before .before .judge-state .ensures .1 (sound (c .before .before)))
+returns-4 c =
+    let judged = c .before .before .before in
+    let state = judged .before .before .judge-state .ensures in (
+      rw (sound-parts, sizes (judged .before .before .before .before .before), flags (judged .before .before .before), sym (state .0) ∙ sound judged, c .before .legends-ok .ensures, c .marks-ok .ensures) refl,
+      λ e. state .1 (sound judged),
+    )
 
 pub judge-spec : {M : Type 1} → statement M
 judge-spec =
@@ -37,4 +43,5 @@ judge-spec =
     (λ c κs. readable-size _ (flags c))
     returns-3
     (λ c κs. sizes-good _ (sizes (c .before .before .before .before .before .before)) .legends)
+    (λ c κs. omega (arith, sizes-good _ (sizes (c .before .before .before .before .before .before .before)) .page))
     returns-4)
