@@ -203,7 +203,7 @@ static uint32_t copy_index(struct generator *g)
 /* Compose, with an output that mostly serves. */
 static void compose(struct generator *g, struct call *c, uint32_t copy)
 {
-    unsigned exact = lines_now(g) * LINE_CELLS;
+    unsigned exact = lines_now(g) * TRESTLEPIP_LINE_BYTES;
     c->kind = CALL_COMPOSE;
     c->copy = copy;
     switch (WEIGHTED(g, 45, 25, 15, 6, 2, 2, 5)) {

@@ -1,4 +1,4 @@
-/* Copies and legends; T-01. */
+/* Copies and legends; T-01; T-03. */
 #include "parts.h"
 
 #include <string.h>
@@ -146,13 +146,20 @@ bool segment_covers_copy(const uint8_t *segment, unsigned number)
     return number >= segment[FIRST_COPY] && number < (unsigned)segment[FIRST_COPY] + segment[COPIES];
 }
 
+/* T-03: a legend cell replaces the code and has mark 0. */
+static void lay_text(const uint8_t *segment, uint8_t *line)
+{
+    for (unsigned i = 0; i < segment[POSITIONS]; i++)
+        put_cell(line, segment[FIRST_POSITION] - 1u + i, (struct cell){ segment[SEGMENT_HEAD + i], 0 });
+}
+
 /* Copies and legends: the text on each line of the segment that the form has. */
 static void lay_segment(const uint8_t *segment, unsigned last_line, uint8_t *out)
 {
     for (unsigned i = 0; i < segment[LINES]; i++) {
         unsigned line = segment[FIRST_LINE] + i;
         if (line <= last_line)
-            memcpy(out + (line - 1) * LINE_CELLS + segment[FIRST_POSITION] - 1, segment + SEGMENT_HEAD, segment[POSITIONS]);
+            lay_text(segment, out + (line - 1) * LINE_BYTES);
     }
 }
 
@@ -160,7 +167,7 @@ static void lay_segment(const uint8_t *segment, unsigned last_line, uint8_t *out
 void compose_copy(const struct printer *p, unsigned number, const uint8_t *page, const uint8_t *legends, uint8_t *out)
 {
     unsigned last_line = printable_lines(p);
-    memcpy(out, page, (size_t)last_line * LINE_CELLS);
+    memcpy(out, page, (size_t)last_line * LINE_BYTES);
     for (const uint8_t *s = next_segment(legends, NULL); s != NULL; s = next_segment(legends, s))
         if (segment_covers_copy(s, number))
             lay_segment(s, last_line, out);

@@ -42,11 +42,11 @@ static void add_release(struct page_counts *n, unsigned number, const uint8_t *b
 }
 
 /* Whether a state would be a printer's if its counters were others. */
-static bool is_bad_by_counters(const struct printer *p, const uint8_t *legends)
+static bool is_bad_by_counters(const struct printer *p, uint8_t *const before[STORES])
 {
     struct printer other = *p;
     other.pages = (struct counters){ 0 };
-    return contents_of_a_printer(&other, legends);
+    return contents_of_a_printer(&other, before[PAGE], before[LEGENDS]);
 }
 
 /* Number 9 on stores of right sizes: the calls that get it for the counters alone, and the ways in which these are off by one page. */
@@ -54,7 +54,7 @@ static void add_unreachable(struct page_counts *n, const struct call *c, uint8_t
 {
     struct printer p;
     decode(before[STATE], &p);
-    if (!is_bad_by_counters(&p, before[LEGENDS]))
+    if (!is_bad_by_counters(&p, before))
         return;
     n->unreachable[c->kind]++;
     n->stacker_ahead += p.pages.stacker == (uint16_t)(p.pages.fuser + 1);

@@ -1,4 +1,4 @@
-/* Writing a line; T-01. */
+/* Writing a line; T-01; T-03. */
 #include "parts.h"
 
 #include <string.h>
@@ -44,18 +44,30 @@ static void add_unprintable(struct findings *found, size_t position)
 }
 
 /* Writing a line: bytes to codes; finds which are unprintable, and whether the selected table isn't loaded. */
-struct findings translate(const struct printer *p, const uint8_t *tables, const uint8_t *bytes, size_t count, uint8_t *cells)
+struct findings translate(const struct printer *p, const uint8_t *tables, const uint8_t *bytes, size_t count, uint8_t *codes)
 {
     const uint8_t *table = serving_table(p, tables);
     struct findings found = { .no_table = !p->loaded[p->selected] };
     for (size_t i = 0; i < count; i++) {
         uint8_t code = table[bytes[i]];
         bool replaced = unprintable(p, code);
-        cells[i] = replaced ? stand_in(p, table) : code;
+        codes[i] = replaced ? stand_in(p, table) : code;
         if (replaced)
             add_unprintable(&found, i + 1);
     }
     return found;
+}
+
+/* T-03: a cell of a line, a page or a copy, counted from 0. */
+struct cell cell_at(const uint8_t *cells, size_t i)
+{
+    return (struct cell){ cells[CELL_BYTES * i], cells[CELL_BYTES * i + 1] };
+}
+
+void put_cell(uint8_t *cells, size_t i, struct cell cell)
+{
+    cells[CELL_BYTES * i] = cell.code;
+    cells[CELL_BYTES * i + 1] = cell.mark;
 }
 
 /* Writing a line: location 00 of any module. */
@@ -70,42 +82,49 @@ static bool underscore(uint8_t code)
     return (code & 0x3F) == 0x2D;
 }
 
-/* Writing a line: old cell then new; two different characters collide. */
-static uint8_t merge(uint8_t old, uint8_t new, bool *collide)
+/* Writing a line, T-03: old cell then new code. Character with underscore is the one merge that sets the mark; two different characters collide. */
+static struct cell merge(struct cell old, uint8_t new, bool *collide)
 {
-    if ((blank(old) && blank(new)) || (underscore(old) && underscore(new)) || old == new)
+    if ((blank(old.code) && blank(new)) || (underscore(old.code) && underscore(new)) || old.code == new)
         return old;
-    if (blank(old))
-        return new;
+    if (blank(old.code))
+        return (struct cell){ new, old.mark };
     if (blank(new))
         return old;
-    if (underscore(old))
-        return new;
+    if (underscore(old.code))
+        return (struct cell){ new, 1 };
     if (underscore(new))
-        return old;
+        return (struct cell){ old.code, 1 };
     *collide = true;
     return old;
 }
 
 /* Writing a line: a later write merges by position; gives whether two characters collide. */
-static bool merge_line(uint8_t *line, const uint8_t *cells)
+static bool merge_line(uint8_t *line, const uint8_t *codes)
 {
     bool collide = false;
     for (unsigned i = 0; i < LINE_CELLS; i++)
-        line[i] = merge(line[i], cells[i], &collide);
+        put_cell(line, i, merge(cell_at(line, i), codes[i], &collide));
     return collide;
+}
+
+/* Writing a line, T-03: the first write sets all cells, each without a mark. */
+static void set_line(uint8_t *line, const uint8_t *codes)
+{
+    for (unsigned i = 0; i < LINE_CELLS; i++)
+        put_cell(line, i, (struct cell){ codes[i], 0 });
 }
 
 /* Writing a line: the whole of a write, without its movement; the fill after the record is not translated, so it is never found. */
 struct findings write_line(const struct printer *p, const uint8_t *tables, const uint8_t *record, size_t count, uint8_t *page)
 {
-    uint8_t cells[LINE_CELLS];
-    uint8_t *line = page + (p->line - 1) * LINE_CELLS;
-    memset(cells, stand_in(p, serving_table(p, tables)), LINE_CELLS);
-    struct findings found = translate(p, tables, record, count, cells);
+    uint8_t codes[LINE_CELLS];
+    uint8_t *line = page + (p->line - 1) * LINE_BYTES;
+    memset(codes, stand_in(p, serving_table(p, tables)), LINE_CELLS);
+    struct findings found = translate(p, tables, record, count, codes);
     if (p->written)
-        found.multiple = merge_line(line, cells);
+        found.multiple = merge_line(line, codes);
     else
-        memcpy(line, cells, LINE_CELLS);
+        set_line(line, codes);
     return found;
 }

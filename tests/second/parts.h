@@ -11,7 +11,10 @@
 enum {
     STATE_BYTES = TRESTLEPIP_STATE_BYTES,
     LINE_CELLS = 204,
-    PAGE_BYTES = 132 * LINE_CELLS,
+    CELL_BYTES = 2,
+    LINE_BYTES = LINE_CELLS * CELL_BYTES,
+    PAGE_LINES = 132,
+    PAGE_BYTES = PAGE_LINES * LINE_BYTES,
     LEGEND_BYTES = 8192,
     SLOT_BYTES = 256,
     TABLE_BYTES = TRESTLEPIP_SLOTS * SLOT_BYTES,
@@ -24,6 +27,11 @@ enum {
 
 /* Causes in sense byte 1 of a data check. */
 enum { UNPRINTABLE = 0x80, NO_TABLE = 0x20, NO_MATCH = 0x10, MULTIPLE = 0x08 };
+
+/* T-03: a stored cell, code then rule mark. */
+struct cell {
+    uint8_t code, mark;
+};
 
 /* T-02: the page counters, which go on from FFFF to 0000. */
 struct counters {
@@ -71,10 +79,10 @@ struct movement {
 /* state.c */
 void decode(const uint8_t *bytes, struct printer *p);
 void encode(const struct printer *p, uint8_t *bytes);
-bool contents_of_a_printer(const struct printer *p, const uint8_t *legends);
+bool contents_of_a_printer(const struct printer *p, const uint8_t *page, const uint8_t *legends);
 bool stores_sized(size_t state_len, size_t page_len, size_t legends_len, size_t tables_len);
-bool read_printer(const uint8_t *state, size_t state_len, size_t page_len, const uint8_t *legends, size_t legends_len, size_t tables_len,
-        struct printer *p);
+bool read_printer(const uint8_t *state, size_t state_len, const uint8_t *page, size_t page_len, const uint8_t *legends, size_t legends_len,
+        size_t tables_len, struct printer *p);
 bool all_zero(const uint8_t *bytes, size_t count);
 
 /* form.c */
@@ -88,8 +96,10 @@ struct movement skip(const struct printer *p, unsigned channel);
 bool page_started(const struct printer *p);
 
 /* line.c */
+struct cell cell_at(const uint8_t *cells, size_t i);
+void put_cell(uint8_t *cells, size_t i, struct cell cell);
 void starting_tables(uint8_t *tables);
-struct findings translate(const struct printer *p, const uint8_t *tables, const uint8_t *bytes, size_t count, uint8_t *cells);
+struct findings translate(const struct printer *p, const uint8_t *tables, const uint8_t *bytes, size_t count, uint8_t *codes);
 struct findings write_line(const struct printer *p, const uint8_t *tables, const uint8_t *record, size_t count, uint8_t *page);
 
 /* stations.c */

@@ -360,7 +360,7 @@ uint64_t second_command(uint8_t command,
 {
     struct printer p;
     struct lent l = { record, record_len, reply, reply_len, page, legends, tables };
-    if (!read_printer(state, state_len, page_len, legends, legends_len, tables_len, &p))
+    if (!read_printer(state, state_len, page, page_len, legends, legends_len, tables_len, &p))
         return pack(refused(9, 0x00));
     struct answer a = judge_and_perform(&p, command_of(command), &l);
     encode(&p, state);
@@ -413,7 +413,7 @@ static struct answer judge_compose(const struct printer *p, uint32_t copy, size_
         return refused(6, 0x00);
     if (copy == 0 || copy > copies_in_all(p))
         return refused(7, 0x00);
-    if (out_len < (size_t)printable_lines(p) * LINE_CELLS)
+    if (out_len < (size_t)printable_lines(p) * LINE_BYTES)
         return refused(8, 0x00);
     return (struct answer){ .mark = mark_of_copy(p, copy), .copy_number = p->copy_number + copy - 1 };
 }
@@ -426,7 +426,7 @@ uint64_t second_compose(uint32_t copy,
 {
     struct printer p;
     (void)tables;
-    if (!read_printer(state, state_len, page_len, legends, legends_len, tables_len, &p))
+    if (!read_printer(state, state_len, page, page_len, legends, legends_len, tables_len, &p))
         return pack(refused(9, 0x00));
     struct answer a = judge_compose(&p, copy, out_len);
     if (a.number == 0)
@@ -455,7 +455,7 @@ uint64_t second_release(
         uint8_t *legends, size_t legends_len, uint8_t *tables, size_t tables_len)
 {
     struct printer p;
-    if (!read_printer(state, state_len, page_len, legends, legends_len, tables_len, &p))
+    if (!read_printer(state, state_len, page, page_len, legends, legends_len, tables_len, &p))
         return pack(refused(9, 0x00));
     struct answer a = release(&p, page, legends, tables);
     encode(&p, state);

@@ -1,4 +1,4 @@
-/* The state's bytes, and the contents that no printer has. */
+/* The state's bytes, and the contents that no printer has; T-03's marks among these. */
 #include "parts.h"
 
 #include <string.h>
@@ -129,12 +129,27 @@ static bool page_in_range(const struct printer *p)
     return p->line >= 1 && p->line <= printable_lines(p);
 }
 
+/* T-03: each mark is 0 or 1, those past line P too. Every sixteenth cell is joined bit by bit: that is fast, and a bit above a mark's lowest stays. */
+static bool marks_in_range(const uint8_t *page)
+{
+    enum { CELLS = 16 };
+    uint8_t joined[CELLS * CELL_BYTES] = { 0 };
+    _Static_assert(PAGE_BYTES % sizeof joined == 0, "no cell is left over");
+    for (size_t at = 0; at < PAGE_BYTES; at += sizeof joined)
+        for (size_t i = 0; i < sizeof joined; i++)
+            joined[i] |= page[at + i];
+    for (size_t i = 0; i < CELLS; i++)
+        if (cell_at(joined, i).mark > 1)
+            return false;
+    return true;
+}
+
 /* Numbers, 9: contents no printer has, without the sizes. */
-bool contents_of_a_printer(const struct printer *p, const uint8_t *legends)
+bool contents_of_a_printer(const struct printer *p, const uint8_t *page, const uint8_t *legends)
 {
     return form_listed(p->form) && pitches_listed(p->pitch) && p->block <= 1 && slots_in_range(p) && p->selected < TRESTLEPIP_SLOTS
         && p->copy_number >= 1 && fcb_in_range(p) && sequence_in_range(p) && page_in_range(p) && counters_reachable(&p->pages)
-        && legends_as_stored(legends);
+        && legends_as_stored(legends) && marks_in_range(page);
 }
 
 /* Numbers, 9: the sizes of the stores. */
@@ -144,11 +159,11 @@ bool stores_sized(size_t state_len, size_t page_len, size_t legends_len, size_t 
 }
 
 /* Numbers, 9: the printer that the stores hold; false if a size is wrong or no printer has these contents. */
-bool read_printer(const uint8_t *state, size_t state_len, size_t page_len, const uint8_t *legends, size_t legends_len, size_t tables_len,
-        struct printer *p)
+bool read_printer(const uint8_t *state, size_t state_len, const uint8_t *page, size_t page_len, const uint8_t *legends, size_t legends_len,
+        size_t tables_len, struct printer *p)
 {
     if (!stores_sized(state_len, page_len, legends_len, tables_len))
         return false;
     decode(state, p);
-    return contents_of_a_printer(p, legends);
+    return contents_of_a_printer(p, page, legends);
 }

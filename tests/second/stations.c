@@ -64,9 +64,8 @@ static unsigned restart(struct counters *n)
             const uint8_t *legends, size_t legends_len, const uint8_t *tables, size_t tables_len) \
     { \
         struct printer p; \
-        (void)page; \
         (void)tables; \
-        if (!read_printer(state, state_len, page_len, legends, legends_len, tables_len, &p)) \
+        if (!read_printer(state, state_len, page, page_len, legends, legends_len, tables_len, &p)) \
             return 9; \
         unsigned number = name(&p.pages); \
         encode(&p, state); \
