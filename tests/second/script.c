@@ -108,7 +108,7 @@ static bool is_meant(char letter, size_t count)
     case 'C': return count == 2;
     case 'R': case 'T': case 'U': case 'K': case 'X': case 'N': return count == 0;
     case 'P': return count == 2;
-    case 'G': return count == 3;
+    case 'G': case 'M': return count == 3;
     case 'L': return count == 2 * STORES;
     case 'B': return count == 2;
     case COMMAND: return count > 0;
@@ -176,14 +176,20 @@ static void tell_pages(FILE *to, const uint8_t *counters)
         fprintf(to, " %02X", counters[i]);
 }
 
+/* A cell as its two bytes, code then mark. */
+static void tell_cell(FILE *to, const char *name, const uint8_t *cells, size_t i)
+{
+    fprintf(to, " %s %02X %02X", name, trestlepip_code_at(cells, i), trestlepip_mark_at(cells, i));
+}
+
 /* The sense, the current line, that line's first cell if the page has it, and the page counters. */
 static void tell_state(FILE *to, const uint8_t *state, const uint8_t *page)
 {
     size_t line = state[TRESTLEPIP_AT_LINE];
     fprintf(to, " | sense %02X %02X %02X .. %02X %02X line %zu", state[TRESTLEPIP_AT_SENSE_0], state[TRESTLEPIP_AT_SENSE_1], state[TRESTLEPIP_AT_SENSE_2],
             state[TRESTLEPIP_AT_SENSE_22], state[TRESTLEPIP_AT_SENSE_23], line);
-    if (line != 0 && line * TRESTLEPIP_LINE_CELLS <= TRESTLEPIP_PAGE_BYTES)
-        fprintf(to, " cell %02X", page[(line - 1) * TRESTLEPIP_LINE_CELLS]);
+    if (line != 0 && line * TRESTLEPIP_LINE_BYTES <= TRESTLEPIP_PAGE_BYTES)
+        tell_cell(to, "cell", page, (line - 1) * TRESTLEPIP_LINE_CELLS);
     tell_pages(to, state + TRESTLEPIP_AT_CHANNEL_PAGE);
 }
 
@@ -203,7 +209,8 @@ static void tell_stores(FILE *to, const struct player *p)
 
 static void tell_copy(FILE *to, const uint8_t *copy, size_t count, const uint8_t *page)
 {
-    fprintf(to, " cell 1 %02X cell 204 %02X", copy[0], copy[TRESTLEPIP_LINE_CELLS - 1]);
+    tell_cell(to, "cell 1", copy, 0);
+    tell_cell(to, "cell 204", copy, TRESTLEPIP_LINE_CELLS - 1);
     tell_count(to, "filled", count_other(copy, 0, count));
     tell_count(to, "unlike", count_unlike(copy, page, count));
 }
@@ -307,6 +314,7 @@ static bool obey_line(struct player *p, const char *text, size_t length, FILE *t
     case COMMENT: return true;
     case 'P': return put(p, STATE, l.given[0], l.given[1]);
     case 'G': return put(p, LEGENDS, double_of(l.given), l.given[2]);
+    case 'M': return put(p, PAGE, double_of(l.given), l.given[2]);
     case 'L': return resize_stores(p, l.given);
     case 'B': return resize(p, BUFFER, double_of(l.given));
     default: obey_call(p, &l, to); return true;
