@@ -12,9 +12,14 @@ const unsigned forms[FORMS] = { 72, 84, 96, 132, 144, 168, 192, 204, 240, 264, 2
 /* At 12 lines per inch this form has 132 printable lines, and no other has so many. */
 enum { FORM_LONGEST = 288 };
 
+bool writes(const struct call *c)
+{
+    return c->kind == CALL_COMMAND && c->command % 8 == 1;
+}
+
 bool translates(const struct call *c)
 {
-    return c->kind == CALL_COMMAND && (c->command == 0x35 || c->command % 8 == 1);
+    return writes(c) || (c->kind == CALL_COMMAND && c->command == 0x35);
 }
 
 /* ---- commands ---- */
@@ -206,13 +211,14 @@ static void compose(struct generator *g, struct call *c, uint32_t copy)
     unsigned exact = lines_now(g) * TRESTLEPIP_LINE_BYTES;
     c->kind = CALL_COMPOSE;
     c->copy = copy;
-    switch (WEIGHTED(g, 45, 25, 15, 6, 2, 2, 5)) {
+    switch (WEIGHTED(g, 45, 25, 15, 6, 2, 2, 2, 5)) {
     case 0: c->buffer_len = exact; break;
     case 1: c->buffer_len = store_size[PAGE]; break;
     case 2: c->buffer_len = between(g, exact, OUT_ROOM); break;
     case 3: c->buffer_len = exact - 1; break;
     case 4: c->buffer_len = 0; break;
     case 5: c->buffer_len = below(g, exact); break;
+    case 6: c->buffer_len = exact / TRESTLEPIP_CELL_BYTES; break;
     default: c->buffer_len = exact + 1; break;
     }
 }

@@ -61,6 +61,9 @@ struct call {
     uint8_t counters[COUNTER_BYTES];
 };
 
+/* Whether the call is a write, if its byte is listed. */
+bool writes(const struct call *c);
+
 /* Whether the call is a write or a legend load, if its byte is listed: only these translate. */
 bool translates(const struct call *c);
 

@@ -114,12 +114,55 @@ static void damage_legends(struct generator *g, struct call *c)
     set_bytes(g, c, LEGENDS, 0, c->record, c->record_len < CHANGE_MOST ? c->record_len : CHANGE_MOST);
 }
 
-/* Cells on the page: no call cares before a write, and none but Start and Release may clean them. */
+/* Any bytes on the page: half of them are marks, and mostly bad ones. */
 static void damage_page(struct generator *g, struct call *c)
 {
-    uint8_t cells[8];
-    generator_fill(g, cells, sizeof cells);
-    set_bytes(g, c, PAGE, below(g, store_size[PAGE] - sizeof cells), cells, sizeof cells);
+    uint8_t bytes[8];
+    generator_fill(g, bytes, sizeof bytes);
+    set_bytes(g, c, PAGE, below(g, store_size[PAGE] - sizeof bytes), bytes, sizeof bytes);
+}
+
+/* A cell of the page, counted from 0: up to line P, past it, next to where that line ends, the first or the last. */
+static size_t some_cell(struct generator *g)
+{
+    const size_t last = PAGE_CELLS - 1, end = (size_t)lines_now(g) * LINE_CELLS, past = end > last ? last : end;
+    switch (WEIGHTED(g, 30, 30, 10, 10, 10, 10)) {
+    case 0: return below(g, end);
+    case 1: return past + below(g, PAGE_CELLS - past);
+    case 2: return end - 1;
+    case 3: return past;
+    case 4: return 0;
+    default: return last;
+    }
+}
+
+/* A mark that is neither 0 nor 1. */
+static void damage_mark(struct generator *g, struct call *c)
+{
+    static const uint8_t marks[] = { 0x02, 0x80, 0xFF };
+    size_t cell = some_cell(g);
+    unsigned mark = percent(g, 60) ? marks[below(g, COUNT(marks))] : between(g, 2, 0xFF);
+    set_byte(g, c, PAGE, TRESTLEPIP_CELL_BYTES * cell + 1, mark);
+}
+
+/* A cell that every call takes, whatever its code: marks on blanks and underscores too, which no writes lead to. */
+static void good_cell(struct generator *g, uint8_t *cell)
+{
+    static const uint8_t codes[] = { 0x00, 0x00, 0x40, 0x2D, 0xAD, 0x01, 0x01, 0x02 };
+    cell[0] = percent(g, 75) ? codes[below(g, COUNT(codes))] : byte(g);
+    cell[1] = (uint8_t)below(g, 2);
+}
+
+/* Some such cells, mostly where the next write meets them; only Start, Release and a first write on the line may clean them. */
+static void damage_cells(struct generator *g, struct call *c)
+{
+    enum { CELLS = 8, NEAR = 12 };
+    uint8_t cells[CELLS * TRESTLEPIP_CELL_BYTES];
+    for (unsigned i = 0; i < CELLS; i++)
+        good_cell(g, cells + TRESTLEPIP_CELL_BYTES * i);
+    size_t first = percent(g, 60) ? line_place(g) + below(g, NEAR) : some_cell(g);
+    first = first > PAGE_CELLS - CELLS ? PAGE_CELLS - CELLS : first;
+    set_bytes(g, c, PAGE, TRESTLEPIP_CELL_BYTES * first, cells, sizeof cells);
 }
 
 /* Counters that no calls can lead to. */
@@ -134,7 +177,7 @@ static void damage_counters(struct generator *g, struct call *c)
 static void damage(struct generator *g, struct call *c)
 {
     g->damage_left = between(g, 2, 6);
-    switch (started_now(g) ? WEIGHTED(g, 50, 12, 12, 8, 5, 8, 10, 12, 4) : WEIGHTED(g, 40, 7, 7, 8, 5, 8, 8, 12, 45)) {
+    switch (started_now(g) ? WEIGHTED(g, 50, 12, 12, 8, 5, 8, 10, 12, 20, 25, 4) : WEIGHTED(g, 40, 7, 7, 8, 5, 8, 8, 12, 45, 25, 6)) {
     case 0: damage_byte(g, c); break;
     case 1: damage_to_waiting(g, c); break;
     case 2: damage_line(g, c); break;
@@ -143,6 +186,8 @@ static void damage(struct generator *g, struct call *c)
     case 5: damage_legends(g, c); break;
     case 6: damage_field(g, c); break;
     case 7: damage_counters(g, c); break;
+    case 8: damage_cells(g, c); break;
+    case 9: damage_mark(g, c); break;
     default: damage_page(g, c); break;
     }
     if (g->undo_count < CHANGES_MOST && percent(g, 12))
@@ -166,7 +211,7 @@ void tend_damage(struct generator *g, struct call *c)
 {
     if (g->undo_count > 0 && --g->damage_left == 0)
         end_damage(g, c);
-    else if (g->undo_count == 0 && g->made > 1 && permille(g, started_now(g) ? 12 : 40))
+    else if (g->undo_count == 0 && g->made > 1 && permille(g, started_now(g) ? 14 : 48))
         damage(g, c);
     for (size_t i = 0; i < g->undo_count; i++)
         c->damaged[g->undo[i].store] = true;

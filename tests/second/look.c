@@ -1,6 +1,8 @@
 /* What the generator sees of the printer: its stores may be damaged, so any bytes are taken. */
 #include "making.h"
 
+#include <string.h>
+
 const uint8_t *state_of(const struct generator *g)
 {
     return g->stores[STATE];
@@ -26,7 +28,35 @@ unsigned lines_now(const struct generator *g)
         lines += top >= 12 && top + 12 < form_now(g);
         top += units(s[TRESTLEPIP_AT_FCB + i]);
     }
-    return lines == 0 ? 1 : lines > 132 ? 132 : lines;
+    return lines == 0 ? 1 : lines > LINES_MOST ? LINES_MOST : lines;
+}
+
+size_t line_place(const struct generator *g)
+{
+    size_t line = state_of(g)[TRESTLEPIP_AT_LINE];
+    return line == 0 || line > LINES_MOST ? 0 : (line - 1) * LINE_CELLS;
+}
+
+uint8_t code_on_page(const struct generator *g, size_t cell)
+{
+    return trestlepip_code_at(g->stores[PAGE], cell);
+}
+
+/* Whether bytes that damage set hold a mark above 1; every odd byte of the page is a mark. */
+static bool has_bad_mark(const struct generator *g, const struct change *set)
+{
+    for (size_t at = set->offset; at < set->offset + set->count; at++)
+        if (at % TRESTLEPIP_CELL_BYTES != 0 && g->stores[PAGE][at] > 1)
+            return true;
+    return false;
+}
+
+bool bad_mark_now(const struct generator *g)
+{
+    for (size_t i = 0; i < g->undo_count; i++)
+        if (g->undo[i].store == PAGE && has_bad_mark(g, &g->undo[i]))
+            return true;
+    return false;
 }
 
 /* The copies of the sequence, at least 1 for any bytes. */
@@ -42,6 +72,11 @@ unsigned copies_now(const struct generator *g)
 bool started_now(const struct generator *g)
 {
     return state_of(g)[TRESTLEPIP_AT_LINE] != 1 || state_of(g)[TRESTLEPIP_AT_WRITTEN] != 0;
+}
+
+bool written_now(const struct generator *g)
+{
+    return state_of(g)[TRESTLEPIP_AT_WRITTEN] == 1;
 }
 
 /* A channel that some line of the FCB has, or any if the line looked at has none. */
@@ -79,13 +114,24 @@ unsigned slot_to_load(const struct generator *g)
     return slot == TRESTLEPIP_SLOTS || !is_loaded(g, selected) ? selected : slot;
 }
 
+static const uint8_t *serving_table(const struct generator *g)
+{
+    unsigned selected = state_of(g)[TRESTLEPIP_AT_SELECTED] % TRESTLEPIP_SLOTS;
+    return g->stores[TABLES] + (is_loaded(g, selected) ? selected : 0) * SLOT_BYTES;
+}
+
 /* Whether the table that serves can print a byte of a text. */
 static bool is_printable(const struct generator *g, unsigned text_byte)
 {
-    const uint8_t *s = state_of(g);
-    unsigned selected = s[TRESTLEPIP_AT_SELECTED] % TRESTLEPIP_SLOTS;
-    uint8_t code = g->stores[TABLES][(is_loaded(g, selected) ? selected : 0) * SLOT_BYTES + text_byte];
-    return code != 0xFF && s[TRESTLEPIP_AT_PITCH + trestlepip_module(code)] != 0;
+    uint8_t code = serving_table(g)[text_byte];
+    return code != 0xFF && state_of(g)[TRESTLEPIP_AT_PITCH + trestlepip_module(code)] != 0;
+}
+
+void bytes_of_codes(const struct generator *g, uint8_t byte_of[SLOT_BYTES])
+{
+    memset(byte_of, 0x40, SLOT_BYTES);
+    for (unsigned i = 0; i < SLOT_BYTES; i++)
+        byte_of[serving_table(g)[i]] = (uint8_t)i;
 }
 
 /* A byte that the table which serves can print, or one that it cannot; any byte if there is none. */

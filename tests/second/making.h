@@ -6,7 +6,8 @@
 #include "../../include/trestlepip.h"
 #include "calls.h"
 
-enum { LINE_CELLS = 204, WRITE_MOST = 204, LOAD_MOST = 8192, SLOT_BYTES = 256, REPLY_BYTES = 24, HEAD = 6, SEGMENT_LEAST = 7 };
+enum { LINE_CELLS = 204, LINES_MOST = 132, PAGE_CELLS = LINES_MOST * LINE_CELLS };
+enum { WRITE_MOST = 204, LOAD_MOST = 8192, SLOT_BYTES = 256, REPLY_BYTES = 24, HEAD = 6, SEGMENT_LEAST = 7 };
 
 #define COUNT(array) (sizeof(array) / sizeof((array)[0]))
 
@@ -36,16 +37,26 @@ unsigned weighted(struct generator *g, const unsigned *weights, size_t count);
 
 #define WEIGHTED(g, ...) weighted(g, (const unsigned[]){ __VA_ARGS__ }, COUNT(((const unsigned[]){ __VA_ARGS__ })))
 
-/* What the state shows: its bytes, the form, and whether a page is started. */
+/* What the state shows: its bytes, the form, and whether a page is started, or its current line written. */
 const uint8_t *state_of(const struct generator *g);
 unsigned form_now(const struct generator *g);
 bool started_now(const struct generator *g);
+bool written_now(const struct generator *g);
 
 /* The units of an FCB byte; a damaged one counts as 6 lines per inch. */
 unsigned units(uint8_t fcb_byte);
 
 /* The printable lines, at least 1 and at most 132 for any bytes. */
 unsigned lines_now(const struct generator *g);
+
+/* The place on the page of the current line's first cell, counted in cells from 0; that of line 1 if the page has no such line. */
+size_t line_place(const struct generator *g);
+
+/* The code of a cell of the page. */
+uint8_t code_on_page(const struct generator *g, size_t cell);
+
+/* Whether the latest damage has put a mark above 1 on the page. */
+bool bad_mark_now(const struct generator *g);
 
 /* The copies of the sequence, at least 1 for any bytes. */
 unsigned copies_now(const struct generator *g);
@@ -61,6 +72,9 @@ unsigned slot_to_load(const struct generator *g);
 
 /* A byte that the table which serves can print, or one that it cannot; any byte if there is none. */
 uint8_t byte_by_table(struct generator *g, bool printable);
+
+/* For each code a byte that the table which serves makes it of; 40 if there is none. */
+void bytes_of_codes(const struct generator *g, uint8_t byte_of[SLOT_BYTES]);
 
 /* The text of a write or of a segment; count is not 0. */
 void text(struct generator *g, uint8_t *bytes, size_t count);

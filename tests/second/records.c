@@ -38,6 +38,22 @@ static void text_but_one(struct generator *g, uint8_t *bytes, size_t count)
     bytes[at] = byte_by_table(g, false);
 }
 
+/* Text that merges with what stands on the line, cell by cell: an underscore of the same module, the same again, the code after it, or a blank. */
+static void text_over_line(struct generator *g, uint8_t *bytes, size_t count)
+{
+    uint8_t byte_of[SLOT_BYTES];
+    bytes_of_codes(g, byte_of);
+    for (size_t i = 0; i < count; i++) {
+        uint8_t old = code_on_page(g, line_place(g) + i % LINE_CELLS);
+        switch (WEIGHTED(g, 40, 20, 25, 15)) {
+        case 0: bytes[i] = byte_of[old - trestlepip_location(old) + TRESTLEPIP_UNDERSCORE]; break;
+        case 1: bytes[i] = byte_of[old]; break;
+        case 2: bytes[i] = byte_of[(old + 1) % SLOT_BYTES]; break;
+        default: bytes[i] = 0x40; break;
+        }
+    }
+}
+
 /* The text of a write or of a segment; count is not 0. */
 void text(struct generator *g, uint8_t *bytes, size_t count)
 {
@@ -116,7 +132,9 @@ void write_record(struct generator *g, struct call *c)
     case 4: c->record_len = WRITE_MOST + 1; break;
     default: c->record_len = between(g, WRITE_MOST + 2, RECORD_ROOM); break;
     }
-    if (c->record_len != 0)
+    if (written_now(g) && percent(g, 30))
+        text_over_line(g, c->record, c->record_len);
+    else if (c->record_len != 0)
         text(g, c->record, c->record_len);
 }
 

@@ -3,7 +3,7 @@
 
 #include <string.h>
 
-/* Chances in a thousand that a call is a station, cancel or restart call, by the pages that are out; damaged counters have one of their own. */
+/* Chances in a thousand that a call is a station, cancel or restart call, by the pages that are out; damaged counters or marks have one of their own. */
 enum { PERMILLE_NONE_OUT = 20, PERMILLE_SOME_OUT = 90, PERMILLE_MOST_OUT = 250, PERMILLE_DAMAGED = 400 };
 
 enum { STATIONS = COUNTERS - 1, NEAR_WRAP = 6, FEW_OUT = 5 };
@@ -20,18 +20,24 @@ unsigned counter_of(const uint8_t *state, unsigned counter)
 
 /* ---- calls ---- */
 
-/* With the most pages out only these calls let a page be released, so they come often then. */
-static unsigned permille_tally(const uint8_t *state)
+/* Whether damage, to the counters or to a mark, is of a kind for which each of these calls is to get 9 now and then. */
+static bool is_damaged(const struct generator *g)
 {
-    unsigned out = trestlepip_pages_between(counter_of(state, CHANNEL), counter_of(state, STACKER));
-    if (!trestlepip_counters_are_reachable(state))
+    return !trestlepip_counters_are_reachable(state_of(g)) || bad_mark_now(g);
+}
+
+/* With the most pages out only these calls let a page be released, so they come often then. */
+static unsigned permille_tally(const struct generator *g)
+{
+    unsigned out = trestlepip_pages_between(counter_of(state_of(g), CHANNEL), counter_of(state_of(g), STACKER));
+    if (is_damaged(g))
         return PERMILLE_DAMAGED;
     return out == 0 ? PERMILLE_NONE_OUT : out == TRESTLEPIP_MOST_PAGES ? PERMILLE_MOST_OUT : PERMILLE_SOME_OUT;
 }
 
 bool tally_due(struct generator *g)
 {
-    return permille(g, permille_tally(state_of(g)));
+    return permille(g, permille_tally(g));
 }
 
 /* Whether a page can pass the station of this counter. */
@@ -53,7 +59,7 @@ static enum call_kind report(struct generator *g)
 /* Cancels and restarts come seldom, so that pages get far. */
 void tally_call(struct generator *g, struct call *c)
 {
-    switch (trestlepip_counters_are_reachable(state_of(g)) ? WEIGHTED(g, 92, 5, 3) : WEIGHTED(g, 60, 20, 20)) {
+    switch (is_damaged(g) ? WEIGHTED(g, 60, 20, 20) : WEIGHTED(g, 92, 5, 3)) {
     case 0: c->kind = report(g); break;
     case 1: c->kind = CALL_CANCEL; break;
     default: c->kind = CALL_RESTART; break;
