@@ -1,4 +1,4 @@
-/* Comparing: every byte that a call was lent, what a refused call must leave, and what an answer may tell. */
+/* Comparing: every byte that a call was lent, what a refused call must leave, what an answer may tell, and what a call may do to the page's marks. */
 #include "compare.h"
 
 #include "../../include/trestlepip.h"
@@ -128,4 +128,85 @@ const char *telling_fault(const struct run *r)
     if (!is_in_record(&r->call, first, count))
         return "the record has no room for such unprintables";
     return is_in_sense(store(r->library, STATE), count) ? NULL : "sense byte 1 does not agree with the unprintables";
+}
+
+/* T-03: neither a blank nor an underscore. */
+static bool is_character(uint8_t code)
+{
+    return trestlepip_location(code) != TRESTLEPIP_BLANK && trestlepip_location(code) != TRESTLEPIP_UNDERSCORE;
+}
+
+/* T-03: whether a merge may leave this cell's mark. A mark stays. One is set where a character takes the place of an underscore, and may be set where a
+ * character stays: the new cell may have been an underscore. */
+static bool mark_may_be(const uint8_t *old, const uint8_t *line, size_t i)
+{
+    uint8_t old_code = trestlepip_code_at(old, i), code = trestlepip_code_at(line, i), mark = trestlepip_mark_at(line, i);
+    bool on_underscore = trestlepip_location(old_code) == TRESTLEPIP_UNDERSCORE && is_character(code);
+    if (trestlepip_mark_at(old, i) == 1 || on_underscore)
+        return mark == 1;
+    return mark == 0 || (mark == 1 && is_character(code) && code == old_code);
+}
+
+/* T-03: the line that a write wrote, beside the same line before it. */
+static const char *line_fault(const uint8_t *old, const uint8_t *line, bool merged)
+{
+    for (size_t i = 0; i < TRESTLEPIP_LINE_CELLS; i++) {
+        if (!merged && trestlepip_mark_at(line, i) != 0)
+            return "the first write on a line left a mark there";
+        if (merged && !mark_may_be(old, line, i))
+            return "a merge left a mark that no merge leaves";
+    }
+    return NULL;
+}
+
+/* T-03: a write changes the current line alone. */
+static const char *write_fault(const struct run *r)
+{
+    const uint8_t *old = r->before[PAGE], *page = store(r->library, PAGE), *state = r->before[STATE];
+    size_t end = (size_t)state[TRESTLEPIP_AT_LINE] * TRESTLEPIP_LINE_BYTES, begin = end - TRESTLEPIP_LINE_BYTES;
+    if (end == 0 || end > store_size[PAGE])
+        return "a write was accepted on a line that no page has";
+    if (memcmp(page, old, begin) != 0 || memcmp(page + end, old + end, store_size[PAGE] - end) != 0)
+        return "a write changed another line than the current one";
+    return line_fault(old + begin, page + begin, state[TRESTLEPIP_AT_WRITTEN] == 1);
+}
+
+/* T-03: whether a line of a copy has a mark in a cell that is not the page's. */
+static bool has_mark_of_its_own(const uint8_t *page, const uint8_t *copy)
+{
+    for (size_t i = 0; i < TRESTLEPIP_LINE_CELLS; i++) {
+        bool same = trestlepip_code_at(copy, i) == trestlepip_code_at(page, i) && trestlepip_mark_at(copy, i) == trestlepip_mark_at(page, i);
+        if (!same && trestlepip_mark_at(copy, i) != 0)
+            return true;
+    }
+    return false;
+}
+
+/* T-03: a cell of a copy is the page's, or a legend's without a mark; most lines are all the page's. */
+static const char *copy_fault(const struct run *r)
+{
+    const uint8_t *page = r->before[PAGE], *copy = last_bytes(r->library, OUT, r->call.buffer_len);
+    size_t length = (size_t)trestlepip_printable_lines(r->before[STATE]) * TRESTLEPIP_LINE_BYTES;
+    if (length > r->call.buffer_len)
+        return "a copy was composed into an output that is too short for it";
+    for (size_t at = 0; at < length; at += TRESTLEPIP_LINE_BYTES)
+        if (memcmp(page + at, copy + at, TRESTLEPIP_LINE_BYTES) != 0 && has_mark_of_its_own(page + at, copy + at))
+            return "a cell of the copy has a mark and is not the page's";
+    return NULL;
+}
+
+/* Calls, Movement: Start and Release set the page to 00, a write writes on it, and no other call changes it. */
+const char *page_fault(const struct run *r)
+{
+    static const uint8_t zeros[TRESTLEPIP_PAGE_BYTES];
+    const uint8_t *page = store(r->library, PAGE);
+    if (trestlepip_number(r->library_answer) != 0)
+        return NULL;
+    if (writes(&r->call))
+        return write_fault(r);
+    if (r->call.kind == CALL_START || r->call.kind == CALL_RELEASE)
+        return memcmp(page, zeros, sizeof zeros) == 0 ? NULL : "the page is not all 00";
+    if (memcmp(page, r->before[PAGE], store_size[PAGE]) != 0)
+        return "the page changed, and the call writes nothing on it";
+    return r->call.kind == CALL_COMPOSE ? copy_fault(r) : NULL;
 }

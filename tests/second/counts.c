@@ -7,7 +7,7 @@
 
 #include <string.h>
 
-enum { LINES_MOST = 132, NUMBER_MOST = 509, LONG_LIST = 1000, MANY_PAGES = 100, SHORT_RUN = 10 };
+enum { NUMBER_MOST = 509, LONG_LIST = 1000, MANY_PAGES = 100, SHORT_RUN = 10 };
 
 /* Sense byte 1 of a command that Block was on for, had it been off: what Block hid is seen only so. */
 static unsigned causes_if_allowed(const struct call *c, uint8_t *const before[STORES])
@@ -38,7 +38,7 @@ static void add_causes(struct counts *n, const struct call *c, uint8_t *const be
 static void add_depth(struct counts *n, const struct call *c, const uint8_t *state)
 {
     const uint8_t *loaded = state + TRESTLEPIP_AT_LOADED;
-    n->write_on_last_line += c->command != 0x35 && state[TRESTLEPIP_AT_LINE] == LINES_MOST;
+    n->write_on_last_line += c->command != 0x35 && state[TRESTLEPIP_AT_LINE] == PAGE_LINES;
     n->all_slots_loaded += loaded[0] && loaded[1] && loaded[2] && loaded[3];
 }
 
@@ -49,16 +49,14 @@ struct texts {
     unsigned bad, first_bad, first_bad_positions;
 };
 
-/* A byte's code, looked up in the stores so that what is counted does not rest on the programs that are compared. */
-static uint8_t code_of(uint8_t *const before[STORES], uint8_t byte)
+uint8_t code_of(uint8_t *const before[STORES], uint8_t byte)
 {
     unsigned selected = before[STATE][TRESTLEPIP_AT_SELECTED];
     unsigned slot = before[STATE][TRESTLEPIP_AT_LOADED + selected] ? selected : 0;
     return before[TABLES][slot * SLOT_BYTES + byte];
 }
 
-/* The same for what cannot be printed. */
-static bool is_unprintable(uint8_t *const before[STORES], uint8_t code)
+bool is_unprintable(uint8_t *const before[STORES], uint8_t code)
 {
     return code == 0xFF || before[STATE][TRESTLEPIP_AT_PITCH + trestlepip_module(code)] == 0;
 }
@@ -163,40 +161,40 @@ static void add_command(struct counts *n, const struct call *c, uint64_t answer,
         add_causes(n, c, before, state);
 }
 
-/* Marks the cells of one line of a segment; gives whether one was marked before. */
-static bool mark_cells(uint8_t *cells, unsigned count)
+/* Covers the cells of one line of a segment; gives whether one was covered before. */
+static bool cover_cells(uint8_t *cells, unsigned count)
 {
     bool again = memchr(cells, 1, count) != NULL;
     memset(cells, 1, count);
     return again;
 }
 
-/* Marks the cells of a segment; gives bit 0 if it covers any, bit 1 if one was marked before. */
-static unsigned mark_segment(const uint8_t *segment, unsigned last_line, uint8_t *marks)
+/* Covers the cells of a segment; gives bit 0 if it covers any, bit 1 if one was covered before. */
+static unsigned cover_segment(const uint8_t *segment, unsigned last_line, uint8_t *covered)
 {
     unsigned seen = 0;
     for (unsigned line = segment[2]; line < (unsigned)segment[2] + segment[3] && line <= last_line; line++)
-        seen |= mark_cells(marks + (line - 1) * LINE_CELLS + segment[4] - 1, segment[5]) ? 3 : 1;
+        seen |= cover_cells(covered + (line - 1) * LINE_CELLS + segment[4] - 1, segment[5]) ? 3 : 1;
     return seen;
 }
 
 /* A composed copy: whether a legend covered something, and whether two segments met. */
 static void add_copy(struct counts *n, uint64_t answer, const uint8_t *const after[STORES])
 {
-    static uint8_t marks[PAGE_BYTES];
+    static uint8_t covered[PAGE_LINES * LINE_CELLS];
     struct printer p;
     unsigned seen = 0, number = trestlepip_copy_number(answer);
     decode(after[STATE], &p);
-    memset(marks, 0, sizeof marks);
+    memset(covered, 0, sizeof covered);
     for (const uint8_t *s = next_segment(after[LEGENDS], NULL); s != NULL && seen != 3; s = next_segment(after[LEGENDS], s))
         if (segment_covers_copy(s, number))
-            seen |= mark_segment(s, printable_lines(&p), marks);
+            seen |= cover_segment(s, printable_lines(&p), covered);
     n->copy++;
     n->copy_covered += seen & 1;
     n->copy_overlapped += seen >> 1;
     n->copy_above_255 += number > 255;
     n->copy_of_last_number += number == NUMBER_MOST;
-    n->copy_of_most_lines += printable_lines(&p) == LINES_MOST;
+    n->copy_of_most_lines += printable_lines(&p) == PAGE_LINES;
 }
 
 /* Start: accepted by form, or refused so that the state is zeroed. */
@@ -222,6 +220,7 @@ static void add_damage(struct counts *n, const struct call *c, uint64_t answer)
     n->state_taken += c->damaged[STATE] && !nine;
     n->legends_refused += c->damaged[LEGENDS] && !c->damaged[STATE] && nine;
     n->legends_taken += c->damaged[LEGENDS] && !nine;
+    n->page_refused += c->damaged[PAGE] && !other && nine;
     n->cells_taken += (c->damaged[PAGE] || c->damaged[TABLES]) && !other && !nine;
 }
 
@@ -275,7 +274,8 @@ void counts_end_list(struct counts *n)
     n->list = (struct list_counts){ 0 };
 }
 
-void counts_add(struct counts *n, const struct call *c, uint64_t answer, uint8_t *const before[STORES], const uint8_t *const after[STORES])
+void counts_add(struct counts *n, const struct call *c, uint64_t answer, uint8_t *const before[STORES], const uint8_t *const after[STORES],
+        const uint8_t *out)
 {
     bool taken = trestlepip_number(answer) == 0;
     n->number[trestlepip_number(answer) % NUMBERS]++;
@@ -289,5 +289,6 @@ void counts_add(struct counts *n, const struct call *c, uint64_t answer, uint8_t
     else if (is_sized(c))
         add_damage(n, c, answer);
     page_counts_add(&n->pages, c, trestlepip_number(answer), before, after[STATE]);
+    mark_counts_add(&n->marks, c, trestlepip_number(answer), before, out);
     add_to_list(n, c, answer, before[STATE]);
 }

@@ -32,6 +32,21 @@ struct page_counts {
     unsigned long unreachable[CALL_KINDS], stacker_ahead, fuser_ahead, transfer_ahead, too_many_out;
 };
 
+/* What a merge tells apart in a code; an old cell is one of the first three, and a new character may be the same as the old one. */
+enum code_class { IS_BLANK, IS_UNDERSCORE, IS_CHARACTER, OLD_CLASSES, IS_SAME = OLD_CLASSES, NEW_CLASSES };
+
+/* Writes by what merged in a cell of theirs: its old mark, its old code and the new one; first writes on a line that had marks; copies that show a mark,
+ * where a legend covers one, and where it does with the code that the page has there. Calls refused with 9 for marks alone, all of them on lines up to
+ * P or all past it, by the call; those with one such mark also by where and what it is. Marks of 0 and 1 that the driver set and a call took, by
+ * the code beside them. */
+struct mark_counts {
+    unsigned long merged[2][OLD_CLASSES][NEW_CLASSES], first_over_marks;
+    unsigned long copy_shows, copy_covers, copy_covers_same;
+    unsigned long bad_up_to_p[CALL_KINDS], bad_past_p[CALL_KINDS];
+    unsigned long bad_first_cell, bad_last_cell, bad_02, bad_80, bad_ff, bad_other;
+    unsigned long lent[2][OLD_CLASSES];
+};
+
 struct counts {
     unsigned long number[NUMBERS];
     unsigned long cause[CAUSES];
@@ -47,18 +62,31 @@ struct counts {
     unsigned long write_on_last_line, all_slots_loaded;
     unsigned long copy, copy_covered, copy_overlapped, copy_above_255, copy_of_last_number, copy_of_most_lines;
     unsigned long start_refused_sized;
-    unsigned long state_refused, state_taken, legends_refused, legends_taken, cells_taken;
+    unsigned long state_refused, state_taken, legends_refused, legends_taken, page_refused, cells_taken;
     unsigned long lists_long, lists_of_pages;
     unsigned long run_so_far, runs, runs_short;
     struct page_counts pages;
+    struct mark_counts marks;
     struct list_counts list, undisturbed;
 };
 
-/* Adds one call: its answer, and the stores before and after it. */
-void counts_add(struct counts *n, const struct call *c, uint64_t answer, uint8_t *const before[STORES], const uint8_t *const after[STORES]);
+/* Adds one call: its answer, the stores before and after it, and the output, which is read after an accepted Compose. */
+void counts_add(struct counts *n, const struct call *c, uint64_t answer, uint8_t *const before[STORES], const uint8_t *const after[STORES],
+        const uint8_t *out);
 
 /* Whether a call's stores all have their sizes. */
 bool is_sized(const struct call *c);
+
+/* A byte's code in the table that serves, and whether a code cannot be printed: looked up in the stores before the call, so that what is counted does
+ * not rest on the programs that are compared. */
+uint8_t code_of(uint8_t *const before[STORES], uint8_t byte);
+bool is_unprintable(uint8_t *const before[STORES], uint8_t code);
+
+/* Whether some cells have a mark among them. */
+bool has_mark(const uint8_t *cells, size_t count);
+
+/* Adds what one call did with marks: its number, the stores before it, and its output. */
+void mark_counts_add(struct mark_counts *n, const struct call *c, unsigned number, uint8_t *const before[STORES], const uint8_t *out);
 
 /* Adds what one call did with the page counters: its number, the stores before it, and the state after it. */
 void page_counts_add(struct page_counts *n, const struct call *c, unsigned number, uint8_t *const before[STORES], const uint8_t *after);

@@ -169,13 +169,64 @@ static void unreachable_rows(struct table *t, const struct page_counts *n)
     }
 }
 
+/* What becomes of a cell's mark in a merge. */
+static const char *mark_after(unsigned mark, enum code_class old, enum code_class new)
+{
+    bool sets = (old == IS_CHARACTER && new == IS_UNDERSCORE) || (old == IS_UNDERSCORE && new == IS_CHARACTER);
+    return mark != 0 ? "mark kept" : sets ? "mark set" : "no mark";
+}
+
+/* Every merge that there is: only a character can come upon the same one. A mark on a blank or an underscore is one that the driver set. */
+static void merge_rows(struct table *t, const struct mark_counts *n)
+{
+    static const char *const names[NEW_CLASSES] = { "blank", "underscore", "character", "the same character" };
+    char name[NAME_ROOM];
+    for (unsigned mark = 0; mark < 2; mark++)
+        for (enum code_class old = IS_BLANK; old < OLD_CLASSES; old++)
+            for (enum code_class new = IS_BLANK; new <= (old == IS_CHARACTER ? IS_SAME : IS_CHARACTER); new++) {
+                bool collide = old == IS_CHARACTER && new == IS_CHARACTER, lent = mark != 0 && old != IS_CHARACTER;
+                snprintf(name, sizeof name, "merge, %s: %s, then %s", mark_after(mark, old, new), names[old], collide ? "another" : names[new]);
+                table_add(t, name, n->merged[mark][old][new], lent ? 5 : 20);
+            }
+}
+
+/* Marks on lines and copies, and those that the driver set. */
+static void mark_rows(struct table *t, const struct mark_counts *n)
+{
+    TABLE_ADD_ROWS(t, { "first write on a line that has marks, which it clears", n->first_over_marks, 5 },
+            { "copy that shows a mark", n->copy_shows, 200 }, { "copy where a legend covers a mark", n->copy_covers, 20 },
+            { "copy where a legend covers a mark with the page's own code", n->copy_covers_same, 5 },
+            { "mark 0 set by the driver on a blank, taken", n->lent[0][IS_BLANK], 20 },
+            { "mark 0 set by the driver on an underscore, taken", n->lent[0][IS_UNDERSCORE], 20 },
+            { "mark 0 set by the driver on a character, taken", n->lent[0][IS_CHARACTER], 20 },
+            { "mark 1 set by the driver on a blank, taken", n->lent[1][IS_BLANK], 20 },
+            { "mark 1 set by the driver on an underscore, taken", n->lent[1][IS_UNDERSCORE], 20 },
+            { "mark 1 set by the driver on a character, taken", n->lent[1][IS_CHARACTER], 20 });
+}
+
+/* Every call except Start judges all marks. */
+static void bad_mark_rows(struct table *t, const struct mark_counts *n)
+{
+    char name[NAME_ROOM];
+    for (enum call_kind i = CALL_COMMAND; i < CALL_KINDS; i++) {
+        snprintf(name, sizeof name, "number 9 for marks alone, up to line P: %s", call_name[i]);
+        table_add(t, name, n->bad_up_to_p[i], 5);
+        snprintf(name, sizeof name, "number 9 for marks alone, past line P: %s", call_name[i]);
+        table_add(t, name, n->bad_past_p[i], 5);
+    }
+    TABLE_ADD_ROWS(t, { "number 9 for one mark alone: the page's first", n->bad_first_cell, 20 },
+            { "number 9 for one mark alone: the page's last", n->bad_last_cell, 20 },
+            { "number 9 for one mark alone: 02", n->bad_02, 20 }, { "number 9 for one mark alone: 80", n->bad_80, 20 },
+            { "number 9 for one mark alone: FF", n->bad_ff, 20 }, { "number 9 for one mark alone: another", n->bad_other, 20 });
+}
+
 /* Refused Starts and damage. */
 static void damage_rows(struct table *t, const struct counts *n)
 {
     TABLE_ADD_ROWS(t, { "refused Start with a right-sized state", n->start_refused_sized, 1 },
             { "damaged state refused with 9", n->state_refused, 1 }, { "damaged state taken", n->state_taken, 1 },
             { "damaged legends refused with 9", n->legends_refused, 1 }, { "damaged legends taken", n->legends_taken, 1 },
-            { "damaged page or tables taken", n->cells_taken, 1 });
+            { "damaged page refused with 9", n->page_refused, 1 }, { "damaged page or tables taken", n->cells_taken, 1 });
 }
 
 /* What undisturbed lists met; those alone show that nothing a printer does leaves contents that get 9. */
@@ -203,6 +254,9 @@ struct faults counts_print(const struct counts *n)
     tally_rows(&t, &n->pages);
     counter_rows(&t, &n->pages);
     unreachable_rows(&t, &n->pages);
+    merge_rows(&t, &n->marks);
+    mark_rows(&t, &n->marks);
+    bad_mark_rows(&t, &n->marks);
     damage_rows(&t, n);
     list_rows(&t, n);
     return table_print(&t);

@@ -153,16 +153,25 @@ static void good_cell(struct generator *g, uint8_t *cell)
     cell[1] = (uint8_t)below(g, 2);
 }
 
-/* Some such cells, mostly where the next write meets them; only Start, Release and a first write on the line may clean them. */
-static void damage_cells(struct generator *g, struct call *c)
+/* Some such cells from a place on; only Start, Release and a first write on the line may clean them. */
+static void set_good_cells(struct generator *g, struct call *c, size_t first)
 {
-    enum { CELLS = 8, NEAR = 12 };
+    enum { CELLS = 8 };
     uint8_t cells[CELLS * TRESTLEPIP_CELL_BYTES];
     for (unsigned i = 0; i < CELLS; i++)
         good_cell(g, cells + TRESTLEPIP_CELL_BYTES * i);
-    size_t first = percent(g, 60) ? line_place(g) + below(g, NEAR) : some_cell(g);
     first = first > PAGE_CELLS - CELLS ? PAGE_CELLS - CELLS : first;
     set_bytes(g, c, PAGE, TRESTLEPIP_CELL_BYTES * first, cells, sizeof cells);
+}
+
+/* Such cells anywhere, or where the next write meets them: it mostly merges, as if the line were written. */
+static void damage_cells(struct generator *g, struct call *c)
+{
+    const unsigned near = 12;
+    bool on_line = percent(g, 60), may_be_written = state_of(g)[TRESTLEPIP_AT_WAITING] == 0;
+    set_good_cells(g, c, on_line ? line_place(g) + below(g, near) : some_cell(g));
+    if (on_line && may_be_written && percent(g, 80))
+        set_byte(g, c, STATE, TRESTLEPIP_AT_WRITTEN, 1);
 }
 
 /* Counters that no calls can lead to. */
@@ -177,7 +186,7 @@ static void damage_counters(struct generator *g, struct call *c)
 static void damage(struct generator *g, struct call *c)
 {
     g->damage_left = between(g, 2, 6);
-    switch (started_now(g) ? WEIGHTED(g, 50, 12, 12, 8, 5, 8, 10, 12, 20, 25, 4) : WEIGHTED(g, 40, 7, 7, 8, 5, 8, 8, 12, 45, 25, 6)) {
+    switch (started_now(g) ? WEIGHTED(g, 50, 12, 12, 8, 5, 8, 10, 12, 40, 25, 4) : WEIGHTED(g, 40, 7, 7, 8, 5, 8, 8, 12, 50, 25, 6)) {
     case 0: damage_byte(g, c); break;
     case 1: damage_to_waiting(g, c); break;
     case 2: damage_line(g, c); break;

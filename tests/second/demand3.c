@@ -22,7 +22,7 @@ struct met {
     unsigned long unlike[STORES], counters_unlike[WAYS], counters_zero[WAYS];
     unsigned long past_calls, deeds[CALL_KINDS], resets;
     unsigned long refused[NUMBERS], no_op, sense, compose;
-    unsigned long pages, pages_with_legends, copies;
+    unsigned long pages, pages_with_legends, pages_with_marks, copies;
 };
 
 /* A run: the pair, the way of its counters and the goal that they are brought to, one page before they agree; the generator of its deeds, and what all
@@ -282,6 +282,7 @@ static bool copies_agree(struct demand_3 *d)
     }
     d->met.pages++;
     d->met.pages_with_legends += store(&p->side[0].set, LEGENDS)[0] != 0;
+    d->met.pages_with_marks += has_mark(store(&p->side[0].set, PAGE), PAGE_CELLS);
     if (number != TRESTLEPIP_BAD_INDEX)
         printf("seed %llu, pair %llu, deed %llu: the copies end with number %u, not 7\n", p->seed, p->number, p->deed_number, number);
     return number == TRESTLEPIP_BAD_INDEX;
@@ -375,7 +376,8 @@ static struct faults print_met(const struct met *m)
     deed_rows(&t, m);
     refused_rows(&t, m);
     TABLE_ADD_ROWS(&t, { "left out: No-Op", m->no_op, 1 }, { "left out: Sense", m->sense, 1 }, { "left out: Compose", m->compose, 1 },
-            { "page compared", m->pages, 1 }, { "page with legends compared", m->pages_with_legends, 1 }, { "copy compared", m->copies, 1 });
+            { "page compared", m->pages, 1 }, { "page with legends compared", m->pages_with_legends, 1 },
+            { "page with marks compared", m->pages_with_marks, 1 }, { "copy compared", m->copies, 1 });
     return table_print(&t);
 }
 

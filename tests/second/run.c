@@ -80,19 +80,38 @@ static void apply_counters(struct run *r)
     memcpy(r->before[STATE] + TRESTLEPIP_AT_CHANNEL_PAGE, r->call.counters, COUNTER_BYTES);
 }
 
+/* A part of a store as it is now becomes that before the next call. */
+static void remember_part(struct run *r, enum store which, size_t from, size_t count)
+{
+    memcpy(r->before[which] + from, store(&r->second, which) + from, count);
+}
+
+/* The page is the largest store. Only Start, Release and writes change it, and a write only its line, as page_fault has seen. */
+static void remember_page(struct run *r)
+{
+    if (writes(&r->call))
+        remember_part(r, PAGE, (r->before[STATE][TRESTLEPIP_AT_LINE] - (size_t)1) * TRESTLEPIP_LINE_BYTES, TRESTLEPIP_LINE_BYTES);
+    else if (r->call.kind != CALL_COMMAND)
+        remember_part(r, PAGE, 0, store_size[PAGE]);
+}
+
 /* The stores as they are now become those before the next call. */
 static void remember(struct run *r)
 {
     bool stores_kept = trestlepip_number(r->second_answer) != 0 || r->call.kind == CALL_COMPOSE || is_tally(&r->call);
-    for (enum store i = STATE; i <= (stores_kept ? STATE : TABLES); i++)
-        memcpy(r->before[i], store(&r->second, i), store_size[i]);
+    if (!stores_kept) {
+        remember_page(r);
+        remember_part(r, LEGENDS, 0, store_size[LEGENDS]);
+        remember_part(r, TABLES, 0, store_size[TABLES]);
+    }
+    remember_part(r, STATE, 0, store_size[STATE]);
 }
 
 static void count_call(struct run *r)
 {
     const struct set *s = &r->second;
     const uint8_t *const after[STORES] = { store(s, STATE), store(s, PAGE), store(s, LEGENDS), store(s, TABLES) };
-    counts_add(&r->counts, &r->call, r->second_answer, r->before, after);
+    counts_add(&r->counts, &r->call, r->second_answer, r->before, after, last_bytes(s, OUT, r->call.buffer_len));
     r->calls_made++;
 }
 
@@ -112,9 +131,9 @@ static bool agree(const struct run *r)
     struct difference d;
     bool same_answer = r->library_answer == r->second_answer;
     bool buffers = buffers_differ(r, &d) || refusal_changes(r, &d);
-    const char *fault = telling_fault(r);
+    const char *fault = telling_fault(r), *misprint = page_fault(r);
     const char *miscount = counting_fault(&r->law, &r->call, r->library_answer, r->before[STATE], store(r->library, STATE));
-    if (same_answer && !buffers && fault == NULL && miscount == NULL)
+    if (same_answer && !buffers && fault == NULL && misprint == NULL && miscount == NULL)
         return true;
     print_place(r);
     print_answers("library", r->library_answer, "second", r->second_answer);
@@ -122,6 +141,8 @@ static bool agree(const struct run *r)
         print_difference(&d);
     if (fault != NULL)
         printf("the library's answer by itself: %s\n", fault);
+    if (misprint != NULL)
+        printf("the library's page or copy by itself: %s\n", misprint);
     if (miscount != NULL)
         printf("the library's counters by themselves: %s\n", miscount);
     return false;
