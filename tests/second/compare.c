@@ -136,8 +136,8 @@ static bool is_character(uint8_t code)
     return trestlepip_location(code) != TRESTLEPIP_BLANK && trestlepip_location(code) != TRESTLEPIP_UNDERSCORE;
 }
 
-/* T-03: whether a merge may leave this cell's mark. A mark stays. One is set where a character takes the place of an underscore, and may be set where a
- * character stays: the new cell may have been an underscore. */
+/* T-03: whether a merge may leave this cell's mark. A mark stays. One is set where a character takes the place of an underscore, and may be set
+ * where a character stays: the new code may have been an underscore. */
 static bool mark_may_be(const uint8_t *old, const uint8_t *line, size_t i)
 {
     uint8_t old_code = trestlepip_code_at(old, i), code = trestlepip_code_at(line, i), mark = trestlepip_mark_at(line, i);
@@ -195,13 +195,11 @@ static const char *copy_fault(const struct run *r)
     return NULL;
 }
 
-/* Calls, Movement: Start and Release set the page to 00, a write writes on it, and no other call changes it. */
-const char *page_fault(const struct run *r)
+/* Calls, Movement: of an accepted call. Start and Release set the page to 00, a write writes on it, and no other call changes it. */
+static const char *accepted_fault(const struct run *r)
 {
     static const uint8_t zeros[TRESTLEPIP_PAGE_BYTES];
     const uint8_t *page = store(r->library, PAGE);
-    if (trestlepip_number(r->library_answer) != 0)
-        return NULL;
     if (writes(&r->call))
         return write_fault(r);
     if (r->call.kind == CALL_START || r->call.kind == CALL_RELEASE)
@@ -209,4 +207,23 @@ const char *page_fault(const struct run *r)
     if (memcmp(page, r->before[PAGE], store_size[PAGE]) != 0)
         return "the page changed, and the call writes nothing on it";
     return r->call.kind == CALL_COMPOSE ? copy_fault(r) : NULL;
+}
+
+/* T-03: whether damage has put a mark above 1 before a call that must refuse it. A page without damage is not searched: that would take long. */
+static bool has_to_get_9(const struct run *r)
+{
+    if (r->call.kind == CALL_START || !r->call.damaged[PAGE])
+        return false;
+    for (size_t i = 0; i < store_size[PAGE] / TRESTLEPIP_CELL_BYTES; i++)
+        if (trestlepip_mark_at(r->before[PAGE], i) > 1)
+            return true;
+    return false;
+}
+
+const char *page_fault(const struct run *r)
+{
+    unsigned number = trestlepip_number(r->library_answer);
+    if (number != TRESTLEPIP_BAD_STORE && has_to_get_9(r))
+        return "a mark above 1 did not get number 9";
+    return number == TRESTLEPIP_ACCEPTED ? accepted_fault(r) : NULL;
 }

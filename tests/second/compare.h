@@ -27,7 +27,7 @@ bool refusal_changes(const struct run *r, struct difference *d);
 /* What is wrong in what the library's answer tells of unprintable positions, whatever the second program did; null if nothing is. */
 const char *telling_fault(const struct run *r);
 
-/* What is wrong in what an accepted call left on the library's page, or in the marks of its copy, whatever the second program did; null if nothing is. */
+/* What is wrong in what a call did to the library's page, its marks or those of a copy, whatever the second program did; null if nothing is. */
 const char *page_fault(const struct run *r);
 
 #endif

@@ -35,10 +35,9 @@ struct page_counts {
 /* What a merge tells apart in a code; an old cell is one of the first three, and a new character may be the same as the old one. */
 enum code_class { IS_BLANK, IS_UNDERSCORE, IS_CHARACTER, OLD_CLASSES, IS_SAME = OLD_CLASSES, NEW_CLASSES };
 
-/* Writes by what merged in a cell of theirs: its old mark, its old code and the new one; first writes on a line that had marks; copies that show a mark,
- * where a legend covers one, and where it does with the code that the page has there. Calls refused with 9 for marks alone, all of them on lines up to
- * P or all past it, by the call; those with one such mark also by where and what it is. Marks of 0 and 1 that the driver set and a call took, by
- * the code beside them. */
+/* Writes by what merged in a cell of theirs: its old mark, its old code and the new one; first writes on a line that had marks; copies that show a
+ * mark, where a legend covers one, and where it does so with the page's own code. Calls refused with 9 for marks alone, all up to line P or all
+ * past it; those with one such mark also by where and what it is. Marks of 0 and 1 that the driver set and a call took, by the code beside them. */
 struct mark_counts {
     unsigned long merged[2][OLD_CLASSES][NEW_CLASSES], first_over_marks;
     unsigned long copy_shows, copy_covers, copy_covers_same;

@@ -152,7 +152,7 @@ static void look_at_covered(struct copy_marks *m, const uint8_t *page, const uin
 }
 
 /* An accepted Compose. */
-static void add_copy(struct mark_counts *n, uint8_t *const before[STORES], const uint8_t *out)
+static void add_marked_copy(struct mark_counts *n, uint8_t *const before[STORES], const uint8_t *out)
 {
     struct copy_marks m = { 0 };
     size_t length = (size_t)trestlepip_printable_lines(before[STATE]) * LINE_BYTES;
@@ -232,7 +232,7 @@ void mark_counts_add(struct mark_counts *n, const struct call *c, unsigned numbe
     if (taken && writes(c))
         add_marking(n, c, before);
     if (taken && c->kind == CALL_COMPOSE)
-        add_copy(n, before, out);
+        add_marked_copy(n, before, out);
     if (number == TRESTLEPIP_BAD_STORE && is_sized(c))
         add_bad_page(n, c, before);
     if (number != TRESTLEPIP_BAD_STORE && c->kind != CALL_START && c->damaged[PAGE])

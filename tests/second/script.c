@@ -14,7 +14,7 @@
 /* What a call is lent: the stores, then a buffer for the reply or the copy. */
 enum { BUFFER = STORES, LENT };
 
-/* The usual size of each, and the byte that it is full of at first. The buffer is filled anew for every call, with a byte that no cell is. */
+/* The usual size of each, and the byte that it is full of at first. The buffer is filled anew for every call, with a byte that no cell has. */
 static const struct {
     const char *name;
     size_t size;

@@ -129,7 +129,7 @@ static bool page_in_range(const struct printer *p)
     return p->line >= 1 && p->line <= printable_lines(p);
 }
 
-/* T-03: each mark is 0 or 1, those past line P too. Every sixteenth cell is joined bit by bit: that is fast, and a bit above a mark's lowest stays. */
+/* T-03: each mark is 0 or 1, those past line P too. Joining every sixteenth cell bit by bit is fast, and keeps any bit above a mark's lowest. */
 static bool marks_in_range(const uint8_t *page)
 {
     enum { CELLS = 16 };

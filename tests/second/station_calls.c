@@ -3,7 +3,7 @@
 
 #include <string.h>
 
-/* Chances in a thousand that a call is a station, cancel or restart call, by the pages that are out; damaged counters or marks have one of their own. */
+/* Chances in a thousand that a call is a station, cancel or restart call, by the pages that are out; bad counters or marks have one of their own. */
 enum { PERMILLE_NONE_OUT = 20, PERMILLE_SOME_OUT = 90, PERMILLE_MOST_OUT = 250, PERMILLE_DAMAGED = 400 };
 
 enum { STATIONS = COUNTERS - 1, NEAR_WRAP = 6, FEW_OUT = 5 };
@@ -20,7 +20,7 @@ unsigned counter_of(const uint8_t *state, unsigned counter)
 
 /* ---- calls ---- */
 
-/* Whether damage, to the counters or to a mark, is of a kind for which each of these calls is to get 9 now and then. */
+/* Whether the counters or a mark are bad: each of these calls is to get 9 for either. */
 static bool is_damaged(const struct generator *g)
 {
     return !trestlepip_counters_are_reachable(state_of(g)) || bad_mark_now(g);
