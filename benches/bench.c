@@ -44,6 +44,10 @@ static void damage(struct side *s, enum damage kind)
         s->state[s->program->selected_at] = 4;
     if (kind == LAST_LEGEND_BYTE)
         s->legends[TRESTLEPIP_LEGEND_BYTES - 1] = 1;
+    if (kind == FIRST_MARK)
+        s->page[1] = 2;
+    if (kind == LAST_MARK)
+        s->page[TRESTLEPIP_PAGE_BYTES - 1] = 2;
     if (kind == BAD_STACKER)
         s->state[s->program->counters_at + COUNTER_BYTES - 1] = 1;
     if (kind == MOST_RELEASED) {

@@ -245,7 +245,7 @@ uint64_t plain_command(uint8_t command,
         uint8_t *state, size_t state_len, uint8_t *page, size_t page_len,
         uint8_t *legends, size_t legends_len, uint8_t *tables, size_t tables_len)
 {
-    unsigned lines = checked(state, state_len, page_len, legends, legends_len, tables_len);
+    unsigned lines = checked(state, state_len, page, page_len, legends, legends_len, tables_len);
     if (lines == 0)
         return answer(TRESTLEPIP_BAD_STORE, 0);
     struct printer *p = (struct printer *)state;
@@ -307,15 +307,19 @@ uint64_t plain_start(uint32_t form,
     return answer(TRESTLEPIP_ACCEPTED, 0);
 }
 
-/* Copies and legends: the text on each line of the segment that the form has. By memmove, which the compiler leaves to the C library: of a memcpy of
- * so few bytes it makes a string instruction, which is slower. */
+/* Copies and legends: the text on each line of the segment that the form has; the first of them is copied to the others. By memmove, which the compiler
+ * leaves to the C library: of a memcpy of so few bytes it makes a string instruction, which is slower. */
 static inline void paint(uint8_t *out, const uint8_t *s, unsigned lines)
 {
     unsigned first = s[FIRST_LINE] - 1u, end = first + s[LINES];
     if (end > lines)
         end = lines;
-    for (unsigned i = first; i < end; i++)
-        memmove(out + i * LINE_CELLS + s[FIRST_POSITION] - 1, s + SEGMENT_HEAD, s[POSITIONS]);
+    if (first >= end)
+        return;
+    uint8_t *text = out + first * LINE_BYTES + (s[FIRST_POSITION] - 1u) * CELL_BYTES;
+    set_cells(text, s + SEGMENT_HEAD, s[POSITIONS]);
+    for (unsigned i = 1; first + i < end; i++)
+        memmove(text + i * LINE_BYTES, text, (size_t)s[POSITIONS] * CELL_BYTES);
 }
 
 /* Segments are laid in order, so that the last one to cover a cell stands. The legends have been checked. */
@@ -344,7 +348,7 @@ uint64_t plain_compose(uint32_t copy,
         const uint8_t *legends, size_t legends_len, const uint8_t *tables, size_t tables_len)
 {
     (void)tables;
-    unsigned lines = checked(state, state_len, page_len, legends, legends_len, tables_len);
+    unsigned lines = checked(state, state_len, page, page_len, legends, legends_len, tables_len);
     if (lines == 0)
         return answer(TRESTLEPIP_BAD_STORE, 0);
     const struct printer *p = (const struct printer *)state;
@@ -352,13 +356,13 @@ uint64_t plain_compose(uint32_t copy,
         return answer(TRESTLEPIP_NO_PAGE, 0);
     if (copy == 0 || copy > p->ends[p->pairs - 1])
         return answer(TRESTLEPIP_BAD_INDEX, 0);
-    size_t bytes = (size_t)lines * LINE_CELLS;
+    size_t bytes = (size_t)lines * LINE_BYTES;
     if (out_len < bytes)
         return answer(TRESTLEPIP_TOO_SHORT, 0);
     unsigned number = p->reference + copy - 1;
     memcpy(out, page, bytes);
     paint_all(out, legends, number, lines);
-    return (uint64_t)(p->marks >> pair_of(p, copy) & 1) << 17 | (uint64_t)number << 32;
+    return (uint64_t)(p->overlay_marks >> pair_of(p, copy) & 1) << 17 | (uint64_t)number << 32;
 }
 
 /* Numbers: 9, 6, 13. */
@@ -366,7 +370,7 @@ uint64_t plain_release(
         uint8_t *state, size_t state_len, uint8_t *page, size_t page_len,
         uint8_t *legends, size_t legends_len, uint8_t *tables, size_t tables_len)
 {
-    if (checked(state, state_len, page_len, legends, legends_len, tables_len) == 0)
+    if (checked(state, state_len, page, page_len, legends, legends_len, tables_len) == 0)
         return answer(TRESTLEPIP_BAD_STORE, 0);
     struct printer *p = (struct printer *)state;
     if ((p->flags & WAITING) == 0)
@@ -426,9 +430,8 @@ static inline uint64_t restart(struct printer *p)
             uint8_t *state, size_t state_len, const uint8_t *page, size_t page_len, \
             const uint8_t *legends, size_t legends_len, const uint8_t *tables, size_t tables_len) \
     { \
-        (void)page; \
         (void)tables; \
-        if (checked(state, state_len, page_len, legends, legends_len, tables_len) == 0) \
+        if (checked(state, state_len, page, page_len, legends, legends_len, tables_len) == 0) \
             return answer(TRESTLEPIP_BAD_STORE, 0); \
         return name((struct printer *)state); \
     }

@@ -67,69 +67,80 @@ static inline bool any_unprintable(const uint8_t *codes, size_t n, unsigned pitc
 }
 
 /* Twelve at a time, of which 132 and 204 are multiples. Not `restrict`, by which the compiler would gather vectors, and take longer. */
-static inline void look_up(uint8_t *cells, const uint8_t *bytes, size_t n, const uint8_t *table)
+static inline void look_up(uint8_t *codes, const uint8_t *bytes, size_t n, const uint8_t *table)
 {
-    for (; n >= 12; n -= 12, cells += 12, bytes += 12)
+    for (; n >= 12; n -= 12, codes += 12, bytes += 12)
         for (unsigned i = 0; i < 12; i++)
-            cells[i] = table[bytes[i]];
+            codes[i] = table[bytes[i]];
     for (size_t i = 0; i < n; i++)
-        cells[i] = table[bytes[i]];
+        codes[i] = table[bytes[i]];
 }
 
 /* Stand-ins, in a pass that is made only where something is unprintable. */
-static inline struct unprintables replace_unprintable(uint8_t *cells, size_t n, unsigned pitches, const uint8_t *table)
+static inline struct unprintables replace_unprintable(uint8_t *codes, size_t n, unsigned pitches, const uint8_t *table)
 {
     struct unprintables found = { 0, 0 };
-    if (!any_unprintable(cells, n, pitches))
+    if (!any_unprintable(codes, n, pitches))
         return found;
     const uint8_t other = stand_in(pitches, table);
     for (size_t i = 0; i < n; i++)
-        if (unprintable(pitches, cells[i])) {
-            cells[i] = other;
+        if (unprintable(pitches, codes[i])) {
+            codes[i] = other;
             if (found.count++ == 0)
                 found.first = (unsigned)i + 1;
         }
     return found;
 }
 
-/* How readily a cell gives way: a blank to all, an underscore to a character, a character to none. The module's bits are set, and so do not count. */
+/* How readily a code gives way: a blank to all, an underscore to a character, a character to none. The module's bits are set, and so do not count. */
 static inline uint8_t weakness(uint8_t code)
 {
     uint8_t location = code | 0xC0;
     return (uint8_t)(2 * (location == (0xC0 | 0x00)) + (location == (0xC0 | 0x2D)));
 }
 
-/* Two different characters collide, and the old one stays. */
-static inline unsigned merge(uint8_t *restrict line, const uint8_t *restrict cells)
+/* T-03: codes as cells with mark 0: a first write, and a legend. */
+static inline void set_cells(uint8_t *restrict cells, const uint8_t *restrict codes, size_t n)
+{
+    for (size_t i = 0; i < n; i++) {
+        cells[CELL_BYTES * i] = codes[i];
+        cells[CELL_BYTES * i + 1] = 0;
+    }
+}
+
+/* Two different characters collide, and the old one stays. T-03: character and underscore set the mark. `^` has the compiler keep to bytes: `+` takes twice
+ * as long. */
+static inline unsigned merge(uint8_t *restrict line, const uint8_t *restrict codes)
 {
     uint8_t collision = 0;
     for (unsigned i = 0; i < LINE_CELLS; i++) {
-        uint8_t old = line[i], new = cells[i], of_old = weakness(old), of_new = weakness(new);
+        uint8_t old = line[CELL_BYTES * i], new = codes[i], of_old = weakness(old), of_new = weakness(new);
         collision |= ((of_old | of_new) == 0) & (old != new);
-        line[i] = of_old > of_new ? new : old;
+        line[CELL_BYTES * i] = of_old > of_new ? new : old;
+        line[CELL_BYTES * i + 1] |= (of_old ^ of_new) == 1;
     }
     return collision ? COLLISION : 0;
 }
 
-/* The stand-in goes to all cells first: a size that the compiler knows is quicker than just the rest. */
-static inline struct unprintables fill_line(uint8_t *cells, const uint8_t *bytes, size_t n, unsigned pitches, const uint8_t *table)
+/* The stand-in goes to all codes first: a size that the compiler knows is quicker than just the rest. */
+static inline struct unprintables fill_line(uint8_t *codes, const uint8_t *bytes, size_t n, unsigned pitches, const uint8_t *table)
 {
-    memset(cells, stand_in(pitches, table), LINE_CELLS);
-    look_up(cells, bytes, n, table);
-    return replace_unprintable(cells, n, pitches, table);
+    memset(codes, stand_in(pitches, table), LINE_CELLS);
+    look_up(codes, bytes, n, table);
+    return replace_unprintable(codes, n, pitches, table);
 }
 
-/* The first write on a line goes straight to the page; a later one is made aside and merged. */
+/* The codes of a line are made aside: a first write sets the line to them, a later one merges them. */
 static inline struct findings write_line(const struct printer *p, const uint8_t *record, size_t n, uint8_t *page, const uint8_t *tables)
 {
-    uint8_t *line = page + (p->line - 1) * LINE_CELLS;
-    const uint8_t *table = serving(p, tables);
-    unsigned causes = loaded(p) ? 0 : UNLOADED;
-    if ((p->flags & WRITTEN) == 0)
-        return (struct findings){ causes, fill_line(line, record, n, p->pitches, table) };
-    uint8_t cells[LINE_CELLS];
-    struct unprintables found = fill_line(cells, record, n, p->pitches, table);
-    return (struct findings){ causes | merge(line, cells), found };
+    uint8_t *line = page + (p->line - 1) * LINE_BYTES;
+    uint8_t codes[LINE_CELLS];
+    struct findings found = { loaded(p) ? 0 : UNLOADED, fill_line(codes, record, n, p->pitches, serving(p, tables)) };
+    if (p->flags & WRITTEN)
+        found.causes |= merge(line, codes);
+    else
+        set_cells(line, codes, LINE_CELLS);
+    return found;
 }
 
 #endif

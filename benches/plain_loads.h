@@ -87,15 +87,15 @@ static inline enum trestlepip_causes sequence_cause(const uint8_t *pairs, size_t
 
 static inline void load_sequence(struct printer *p, const uint8_t *pairs, size_t n)
 {
-    unsigned total = 0, marks = 0;
+    unsigned total = 0, overlay_marks = 0;
     memset(p->ends, 0, PAIRS);
     for (size_t i = 0; i < n / 2; i++) {
         total += pairs[2 * i];
-        marks |= (unsigned)pairs[2 * i + 1] << i;
+        overlay_marks |= (unsigned)pairs[2 * i + 1] << i;
         p->ends[i] = (uint8_t)total;
     }
     p->pairs = (uint8_t)(n / 2);
-    p->marks = (uint8_t)marks;
+    p->overlay_marks = (uint8_t)overlay_marks;
 }
 
 static inline enum trestlepip_causes legends_cause(const uint8_t *record, size_t n)

@@ -10,6 +10,8 @@
 
 enum {
     LINE_CELLS = TRESTLEPIP_LINE_CELLS,
+    CELL_BYTES = TRESTLEPIP_CELL_BYTES,
+    LINE_BYTES = TRESTLEPIP_LINE_BYTES,
     PAGE_BYTES = TRESTLEPIP_PAGE_BYTES,
     LEGEND_BYTES = TRESTLEPIP_LEGEND_BYTES,
     TABLE_BYTES = TRESTLEPIP_TABLE_BYTES,
@@ -42,7 +44,7 @@ struct printer {
     uint8_t reference;
     uint8_t line;
     uint8_t pairs;
-    uint8_t marks;              /* a bit a pair */
+    uint8_t overlay_marks;      /* a bit a pair */
     uint8_t ends[PAIRS];        /* the index of each pair's last copy, 00 after the pairs */
     uint8_t spacing[HALVES];    /* lines in each half inch, 00 after the form */
     uint8_t channel[CHANNELS];  /* of each printable line, 00 after the last */
@@ -103,7 +105,7 @@ static inline unsigned printable(const struct printer *p)
 /* Each pair has a copy or more, so that the ends rise; they are bytes, so that no total is above 255. */
 static inline bool pairs_bad(const struct printer *p)
 {
-    if (p->pairs == 0 || p->pairs > PAIRS || p->marks >> p->pairs != 0)
+    if (p->pairs == 0 || p->pairs > PAIRS || p->overlay_marks >> p->pairs != 0)
         return true;
     unsigned before = 0, i = 0;
     bool bad = false;
@@ -206,13 +208,47 @@ static inline bool legends_sound(const uint8_t *legends)
     return all_zero(legends + end, LEGEND_BYTES - end);
 }
 
-/* Numbers, 9: P, or 0 where sizes or contents are wrong. */
-static inline unsigned checked(const uint8_t *state, size_t state_len, size_t page_len, const uint8_t *legends, size_t legends_len, size_t tables_len)
+/* T-03: a block of the page, two thirds of a line. The compiler writes it out whole; of a larger one it makes a loop, which takes half as long again. */
+enum { MARK_BLOCK = LINE_BYTES * 2 / 3 };
+_Static_assert(PAGE_BYTES % MARK_BLOCK == 0 && MARK_BLOCK % sizeof(uint64_t) == 0, "the page is whole blocks of whole words");
+
+/* The bits that no mark has, in a word of four cells. */
+static inline uint64_t above_1(void)
+{
+    static const uint8_t bits[] = { 0, 0xFE, 0, 0xFE, 0, 0xFE, 0, 0xFE };
+    uint64_t word;
+    memcpy(&word, bits, sizeof word);
+    return word;
+}
+
+static inline bool any_mark_bad(const uint8_t *block)
+{
+    uint64_t all = 0, word;
+    for (unsigned i = 0; i < MARK_BLOCK; i += sizeof word) {
+        memcpy(&word, block + i, sizeof word);
+        all |= word;
+    }
+    return (all & above_1()) != 0;
+}
+
+/* T-03: every mark of the page is 0 or 1. By words, with a test after each block: 0.75 us, the fastest of the plain ways that were tried. With one test at
+ * the end words take 1.2; the marks alone, joined by `|`, 0.9 to 1.3; a test at each mark 9. */
+static inline bool marks_sound(const uint8_t *page)
+{
+    for (size_t at = 0; at < PAGE_BYTES; at += MARK_BLOCK)
+        if (any_mark_bad(page + at))
+            return false;
+    return true;
+}
+
+/* Numbers, 9: P, or 0 where sizes or contents are wrong. The page comes last, as it takes longest. */
+static inline unsigned checked(const uint8_t *state, size_t state_len, const uint8_t *page, size_t page_len,
+        const uint8_t *legends, size_t legends_len, size_t tables_len)
 {
     if (state_len != PLAIN_STATE_BYTES || page_len != PAGE_BYTES || legends_len != LEGEND_BYTES || tables_len != TABLE_BYTES)
         return 0;
     unsigned lines = lines_of((const struct printer *)state);
-    return lines != 0 && legends_sound(legends) ? lines : 0;
+    return lines != 0 && legends_sound(legends) && marks_sound(page) ? lines : 0;
 }
 
 #endif

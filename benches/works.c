@@ -32,6 +32,12 @@ static void fill_overprint(uint8_t *text, size_t size)
         text[i] = i % 3 == 0 ? 0x6D : i % 3 == 1 ? 0x40 : (uint8_t)(0xC1 + i % 9);
 }
 
+/* What is written under a total. */
+static void fill_rule(uint8_t *text, size_t size)
+{
+    memset(text, 0x6D, size);
+}
+
 /* ---- making a work ---- */
 
 static void ready(struct work *w, enum call_kind kind, uint32_t number, const uint8_t *record, size_t record_len)
@@ -136,6 +142,7 @@ struct making {
     size_t count;
     uint8_t text[LINE_MOST];
     uint8_t overprint[LINE_MOST];
+    uint8_t rule[LINE_MOST];
 };
 
 static struct work *next_work(struct making *m)
@@ -166,15 +173,16 @@ static void make_bad_write(struct making *m, size_t bytes)
     measure_often(w, printable(6) - 1, CALL_COMMAND, 0x09, text, bytes);
 }
 
-static void make_pair(struct making *m, size_t bytes)
+/* The second write is merged with the first. */
+static void make_pair(struct making *m, const char *what, const uint8_t *second, size_t bytes)
 {
     struct work *w = next_work(m);
-    snprintf(w->name, sizeof w->name, "two writes on a line, 01 then 09, %zu bytes", bytes);
+    snprintf(w->name, sizeof w->name, "%s, 01 then 09, %zu bytes", what, bytes);
     ready_form(w, FORM, 6);
     w->parts = printable(6) - 1;
     for (unsigned i = 0; i < w->parts; i++) {
         measure(w, CALL_COMMAND, 0x01, m->text, bytes);
-        measure(w, CALL_COMMAND, 0x09, m->overprint, bytes);
+        measure(w, CALL_COMMAND, 0x09, second, bytes);
     }
 }
 
@@ -235,6 +243,7 @@ static struct work *make_refusal(struct making *m, unsigned number, const char *
     return w;
 }
 
+/* Judging the marks takes as much as the refusal for the last of them takes longer than that for the first. */
 static void make_refusals(struct making *m)
 {
     const struct call write = { CALL_COMMAND, 0x09, m->text, 132 }, release = { CALL_RELEASE, 0, NULL, 0 };
@@ -246,12 +255,14 @@ static void make_refusals(struct making *m)
     make_refusal(m, 9, "page of a wrong size", false, write)->damage = SHORT_PAGE;
     make_refusal(m, 9, "selected slot 4", false, write)->damage = BAD_SELECTION;
     make_refusal(m, 9, "last byte of the legends set", false, write)->damage = LAST_LEGEND_BYTE;
+    make_refusal(m, 9, "first mark of the page is 2", false, write)->damage = FIRST_MARK;
+    make_refusal(m, 9, "last mark of the page is 2", false, write)->damage = LAST_MARK;
     make_refusal(m, 9, "stacker ahead of the fuser", false, write)->damage = BAD_STACKER;
     make_refusal(m, 12, "transferred with no page released", false, (struct call){ CALL_TRANSFERRED, 0, NULL, 0 });
     make_refusal(m, 13, "release with the most pages between", true, release)->damage = MOST_RELEASED;
 }
 
-/* Four segments at 6 lines per inch have a limit: page, copy and legends together stay in the first cache there, as those of memcpy do. */
+/* Four segments at 12 lines per inch have a limit. A call reads the whole page, which is more than the first cache holds; only there memcpy's bytes are too. */
 static void make_compose(struct making *m, unsigned segments, uint8_t lines, unsigned lpi)
 {
     struct work *w = next_work(m);
@@ -260,8 +271,8 @@ static void make_compose(struct making *m, unsigned segments, uint8_t lines, uns
     ready_segments(w, segments, lines);
     ready_page(w, printable(lpi) - 1, m->text);
     measure_often(w, 20, CALL_COMPOSE, 1, NULL, 0);
-    w->copied = (size_t)printable(lpi) * LINE_MOST;
-    w->limited = segments == 4 && lpi == 6;
+    w->copied = (size_t)printable(lpi) * TRESTLEPIP_LINE_BYTES;
+    w->limited = segments == 4 && lpi == 12;
 }
 
 static void make_load(struct making *m)
@@ -295,14 +306,17 @@ size_t works_make(struct work *works)
     m.works = works;
     fill_text(m.text, sizeof m.text);
     fill_overprint(m.overprint, sizeof m.overprint);
+    fill_rule(m.rule, sizeof m.rule);
     make_write(&m, 132, 6);
     make_write(&m, 132, 8);
     make_write(&m, 204, 6);
     make_write(&m, 204, 8);
     make_bad_write(&m, 132);
     make_bad_write(&m, 204);
-    make_pair(&m, 132);
-    make_pair(&m, 204);
+    make_pair(&m, "two writes on a line", m.overprint, 132);
+    make_pair(&m, "two writes on a line", m.overprint, 204);
+    make_pair(&m, "a total and its rule", m.rule, 132);
+    make_pair(&m, "a total and its rule", m.rule, 204);
     make_page(&m);
     make_reports(&m);
     make_giving_up(&m, "cancel", CALL_CANCEL);

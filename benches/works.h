@@ -5,7 +5,7 @@
 #include "sides.h"
 
 /* What is done to a printer that is ready, so that every call gets number 9. The last is no damage: calls lead there too, so many that it is set. */
-enum damage { NO_DAMAGE, SHORT_PAGE, BAD_SELECTION, LAST_LEGEND_BYTE, BAD_STACKER, MOST_RELEASED };
+enum damage { NO_DAMAGE, SHORT_PAGE, BAD_SELECTION, LAST_LEGEND_BYTE, FIRST_MARK, LAST_MARK, BAD_STACKER, MOST_RELEASED };
 
 struct work {
     char name[80];
