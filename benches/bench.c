@@ -54,6 +54,9 @@ static void damage(struct side *s, enum damage kind)
         s->state[s->program->counters_at] = TRESTLEPIP_MOST_PAGES / 256;
         s->state[s->program->counters_at + 1] = TRESTLEPIP_MOST_PAGES % 256;
     }
+    if (kind == ALL_RULED)
+        for (size_t i = 1; i < TRESTLEPIP_PAGE_BYTES; i += TRESTLEPIP_CELL_BYTES)
+            s->page[i] = 1;
 }
 
 /* A printer as the work begins with it. */

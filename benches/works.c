@@ -32,10 +32,12 @@ static void fill_overprint(uint8_t *text, size_t size)
         text[i] = i % 3 == 0 ? 0x6D : i % 3 == 1 ? 0x40 : (uint8_t)(0xC1 + i % 9);
 }
 
-/* What is written under a total. */
-static void fill_rule(uint8_t *text, size_t size)
+/* A total has underscores of its own between its words. */
+static void fill_total(uint8_t *text, size_t size)
 {
-    memset(text, 0x6D, size);
+    fill_text(text, size);
+    for (size_t i = 6; i < size; i += 14)
+        text[i] = 0x6D;
 }
 
 /* ---- making a work ---- */
@@ -142,6 +144,7 @@ struct making {
     size_t count;
     uint8_t text[LINE_MOST];
     uint8_t overprint[LINE_MOST];
+    uint8_t total[LINE_MOST];
     uint8_t rule[LINE_MOST];
 };
 
@@ -158,6 +161,7 @@ static void make_write(struct making *m, size_t bytes, unsigned lpi)
     struct work *w = next_work(m);
     snprintf(w->name, sizeof w->name, "write and space 1, %zu bytes, %u lines per inch", bytes, lpi);
     ready_form(w, FORM, lpi);
+    w->damage = ALL_RULED;
     measure_often(w, printable(lpi) - 1, CALL_COMMAND, 0x09, m->text, bytes);
 }
 
@@ -174,14 +178,14 @@ static void make_bad_write(struct making *m, size_t bytes)
 }
 
 /* The second write is merged with the first. */
-static void make_pair(struct making *m, const char *what, const uint8_t *second, size_t bytes)
+static void make_pair(struct making *m, const char *what, const uint8_t *first, const uint8_t *second, size_t bytes)
 {
     struct work *w = next_work(m);
     snprintf(w->name, sizeof w->name, "%s, 01 then 09, %zu bytes", what, bytes);
     ready_form(w, FORM, 6);
     w->parts = printable(6) - 1;
     for (unsigned i = 0; i < w->parts; i++) {
-        measure(w, CALL_COMMAND, 0x01, m->text, bytes);
+        measure(w, CALL_COMMAND, 0x01, first, bytes);
         measure(w, CALL_COMMAND, 0x09, second, bytes);
     }
 }
@@ -270,6 +274,7 @@ static void make_compose(struct making *m, unsigned segments, uint8_t lines, uns
     ready_form(w, FORM, lpi);
     ready_segments(w, segments, lines);
     ready_page(w, printable(lpi) - 1, m->text);
+    w->damage = ALL_RULED;
     measure_often(w, 20, CALL_COMPOSE, 1, NULL, 0);
     w->copied = (size_t)printable(lpi) * TRESTLEPIP_LINE_BYTES;
     w->limited = segments == 4 && lpi == 12;
@@ -306,17 +311,18 @@ size_t works_make(struct work *works)
     m.works = works;
     fill_text(m.text, sizeof m.text);
     fill_overprint(m.overprint, sizeof m.overprint);
-    fill_rule(m.rule, sizeof m.rule);
+    fill_total(m.total, sizeof m.total);
+    memset(m.rule, 0x6D, sizeof m.rule);
     make_write(&m, 132, 6);
     make_write(&m, 132, 8);
     make_write(&m, 204, 6);
     make_write(&m, 204, 8);
     make_bad_write(&m, 132);
     make_bad_write(&m, 204);
-    make_pair(&m, "two writes on a line", m.overprint, 132);
-    make_pair(&m, "two writes on a line", m.overprint, 204);
-    make_pair(&m, "a total and its rule", m.rule, 132);
-    make_pair(&m, "a total and its rule", m.rule, 204);
+    make_pair(&m, "two writes on a line", m.text, m.overprint, 132);
+    make_pair(&m, "two writes on a line", m.text, m.overprint, 204);
+    make_pair(&m, "a total and its rule", m.total, m.rule, 132);
+    make_pair(&m, "a total and its rule", m.total, m.rule, 204);
     make_page(&m);
     make_reports(&m);
     make_giving_up(&m, "cancel", CALL_CANCEL);

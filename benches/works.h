@@ -4,8 +4,9 @@
 
 #include "sides.h"
 
-/* What is done to a printer that is ready, so that every call gets number 9. The last is no damage: calls lead there too, so many that it is set. */
-enum damage { NO_DAMAGE, SHORT_PAGE, BAD_SELECTION, LAST_LEGEND_BYTE, FIRST_MARK, LAST_MARK, BAD_STACKER, MOST_RELEASED };
+/* What is done to a printer that is ready, so that every call gets number 9. The last two are no damage: so many pages as only very many calls release, and
+ * a rule mark in every cell, which a first write and a legend have to clear. */
+enum damage { NO_DAMAGE, SHORT_PAGE, BAD_SELECTION, LAST_LEGEND_BYTE, FIRST_MARK, LAST_MARK, BAD_STACKER, MOST_RELEASED, ALL_RULED };
 
 struct work {
     char name[80];
