@@ -102,7 +102,10 @@ void spool_send_last(struct spool *spool, uint8_t command, const uint8_t *record
 /* Reports the page that was released past each station, and counts it when it is stacked. */
 void spool_pass_stations(struct spool *spool);
 
-/* Writes the composed copy as text, unless another is the only one wanted: its lines up to the last that is not blank. */
+/*
+ * Writes the composed copy as text, unless another is the only one wanted: its lines up to the last that is not blank. Below a line that has rule marks
+ * stands a row of hyphens, one under each marked cell and in the place of each underscore.
+ */
 void show_copy(struct spool *spool, uint64_t answer);
 
 /* Each report says the sheet in work, the line, and the call. The checks are those of a command's answer, with the sense read after it. */

@@ -222,7 +222,7 @@ static struct layout rule(size_t first)
     return line;
 }
 
-/* A total, written without spacing, and underscores over it, which show where it is blank. */
+/* A total, written without spacing, and underscores over it: its characters get rule marks, its blanks become underscores, and all is one rule. */
 static void write_total(struct spool *spool, const char *label, size_t heads, uint64_t tenths)
 {
     char count[COUNT_WIDTH + sizeof " head"];

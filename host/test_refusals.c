@@ -1,6 +1,7 @@
 /*
  * Provokes each refusal that a host can provoke, which is all except number 11, each cause, each check, and want of memory, and holds the reports to
- * the texts of docs/NUMBERS.md, whose path is the argument. All reports go to standard error too, for host/test_morning.
+ * the texts of docs/NUMBERS.md, whose path is the argument. All reports go to standard error too, for host/test_morning. Prints lines with rules, and
+ * holds the sheets to what they are to show.
  */
 #include <stdlib.h>
 #include <string.h>
@@ -30,12 +31,19 @@ static FILE *scratch(void)
     return file;
 }
 
-/* Reads back what was written to a file, as one string, and closes it. */
-static char *written(FILE *file)
+/* Reads back what was written to a file, as one string. */
+static char *read_back(FILE *file)
 {
     static char text[ROOM];
     rewind(file);
     text[fread(text, 1, ROOM - 1, file)] = '\0';
+    return text;
+}
+
+/* The same, and closes the file. */
+static char *written(FILE *file)
+{
+    char *text = read_back(file);
     fclose(file);
     return text;
 }
@@ -370,6 +378,72 @@ static void check_damaged(void)
     end(STOPPED, 1, SHEET_7 "01: refusal 9", "not reported: counters", 1000);
 }
 
+/* A mark that is neither 0 nor 1 stops the job, also past the last line of the form. */
+static void check_damaged_mark(void)
+{
+    begin(FORM);
+    print_sheet();
+    spool.page[sizeof spool.page - 1] = 2;
+    print_sheet();
+    end(STOPPED, 1, SHEET_7 "01: refusal 9", "not reported: mark", 2);
+}
+
+/*
+ * What a sheet shows of two writes on line 1, of a legend that begins in column `column` there, and of a mark that is set behind the spooler's back in cell
+ * `marked` of the page, from 1. Calls mark no blank; if one is marked all the same, the sheet shows it.
+ */
+static const struct {
+    const char *first, *second, *legend;
+    uint8_t column;
+    size_t marked;
+    const char *shown;
+} rules[] = {
+    {"A B", "___", "", 0, 0, "A B\n---\n"},
+    {"___", "A B", "", 0, 0, "A B\n---\n"},
+    {"ABC", " _ ", "", 0, 0, "ABC\n -\n"},
+    {"A_ B", "_", "", 0, 0, "A  B\n--\n"},
+    {"AB", "____", "", 0, 0, "AB\n----\n"},
+    {"A_", "", "", 0, 0, "A_\n"},
+    {"_ _B", "___", "", 0, 0, "___B\n"},
+    {"ABC", "___", "D", 2, 0, "ADC\n- -\n"},
+    {"ABC", "___", "B", 2, 0, "ABC\n- -\n"},
+    {"ABC", "___", " ", 2, 0, "A C\n- -\n"},
+    {"ABC", "___", "ABC", 1, 0, "ABC\n"},
+    {"ABC", "", "", 0, 1, "ABC\n-\n"},
+    {"A", "", "", 0, 3, "A\n  -\n"},
+    {"A", "", "", 0, TRESTLEPIP_LINE_CELLS + 2, "A\n\n -\n"},
+};
+
+static void load_legend(uint8_t column, const char *text)
+{
+    uint8_t record[ROOM] = {1, 1, 1, 1, column, (uint8_t)strlen(text)};
+    size_t length = text_to_bytes(text, record + 6, sizeof record - 6);
+    if (length > 0)
+        spool_send(&spool, TRESTLEPIP_LOAD_COPY_MODIFICATION, record, 6 + length);
+}
+
+static void write_text(const char *text)
+{
+    uint8_t record[TRESTLEPIP_LINE_CELLS];
+    size_t length = text_to_bytes(text, record, sizeof record);
+    if (length > 0)
+        spool_send(&spool, TRESTLEPIP_WRITE_NO_SPACE, record, length);
+}
+
+static void check_rule(size_t i)
+{
+    begin(FORM);
+    load_legend(rules[i].column, rules[i].legend);
+    spool.sheet = &sheet;
+    write_text(rules[i].first);
+    write_text(rules[i].second);
+    if (rules[i].marked > 0)
+        spool.page[(rules[i].marked - 1) * TRESTLEPIP_CELL_BYTES + 1] = 1;
+    spool_send(&spool, TRESTLEPIP_CLEAR, NULL, 0);
+    check(strcmp(read_back(spool.sheets), rules[i].shown) == 0, "shown otherwise: rule", (unsigned)i);
+    end_with(ALL_GOOD, 1, "", "reported, though good: rule", (unsigned)i);
+}
+
 /* realloc that gives memory so many times more. */
 static unsigned gifts;
 static void *give(void *array, size_t bytes)
@@ -447,10 +521,13 @@ int main(int argc, char **argv)
     check_pages(0xFFFF, 0xFFFF);
     check_pages(3, 0xFFFE);
     check_damaged();
+    check_damaged_mark();
+    for (size_t i = 0; i < sizeof rules / sizeof *rules; i++)
+        check_rule(i);
     check_memory();
     check_text();
     fclose(page);
-    printf("refusals: %u numbers, %u causes and %zu checks provoked, %u faults\n", (unsigned)LAST_NUMBER - 1, (unsigned)LISTED_CAUSES,
-        sizeof checks / sizeof *checks + sizeof unprintables / sizeof *unprintables + 1, failures);
+    printf("refusals: %u numbers, %u causes and %zu checks provoked, %zu rules shown, %u faults\n", (unsigned)LAST_NUMBER - 1, (unsigned)LISTED_CAUSES,
+        sizeof checks / sizeof *checks + sizeof unprintables / sizeof *unprintables + 1, sizeof rules / sizeof *rules, failures);
     return failures == 0 ? 0 : 1;
 }
