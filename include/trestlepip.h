@@ -43,16 +43,29 @@
  *         return false;
  *     }
  *
+ *     // Prints a line's characters; and below them, if any is marked, a row with a hyphen under each that is.
+ *     static void print_line(const uint8_t *line)
+ *     {
+ *         static const char of_location[] = " ABCDEFGHI#.<(+|&JKLMNOPQR!$*);#-/STUVWXYZ#,%_>?0123456789:#@'=\"";    // in the starting table
+ *         bool ruled = false;
+ *         for (unsigned i = 0; i < TRESTLEPIP_LINE_CELLS; i++) {
+ *             putchar(of_location[trestlepip_location(trestlepip_code_at(line, i))]);
+ *             ruled = ruled || trestlepip_mark_at(line, i) == 1;
+ *         }
+ *         putchar('\n');
+ *         if (!ruled)
+ *             return;
+ *         for (unsigned i = 0; i < TRESTLEPIP_LINE_CELLS; i++)
+ *             putchar(trestlepip_mark_at(line, i) == 1 ? '-' : ' ');
+ *         putchar('\n');
+ *     }
+ *
  *     // The first P lines of the buffer are this copy's. What stands after them is older, and no part of it.
  *     static bool print_copy(uint64_t answer)
  *     {
- *         static const char of_location[] = " ABCDEFGHI#.<(+|&JKLMNOPQR!$*);#-/STUVWXYZ#,%_>?0123456789:#@'=\"";    // in the starting table
  *         printf("copy %u\n", trestlepip_copy_number(answer));
- *         for (unsigned line = 0; line < trestlepip_printable_lines(state); line++) {
- *             for (unsigned i = 0; i < TRESTLEPIP_LINE_CELLS; i++)
- *                 putchar(of_location[trestlepip_location(copy[line * TRESTLEPIP_LINE_CELLS + i])]);
- *             putchar('\n');
- *         }
+ *         for (unsigned line = 0; line < trestlepip_printable_lines(state); line++)
+ *             print_line(copy + line * TRESTLEPIP_LINE_BYTES);
  *         return fflush(stdout) == 0;
  *     }
  *
@@ -84,11 +97,13 @@
  *
  *     int main(void)
  *     {
- *         static const uint8_t two_copies[] = {2, 0}, calf[] = {0xC3, 0xC1, 0xD3, 0xC6}, weight[] = {0xF4, 0xF1, 0x4B, 0xF5};
+ *         static const uint8_t two_copies[] = {2, 0}, calf[] = {0xC3, 0xC1, 0xD3, 0xC6};
+ *         static const uint8_t total[] = {0xF4, 0xF1, 0x4B, 0xF5}, underscores[] = {0x6D, 0x6D, 0x6D, 0x6D};
  *         bool good = is_good(trestlepip_start(84, 10, 10, 10, 10, STORES))
  *             && send_command(TRESTLEPIP_LOAD_OVERLAY_SEQUENCE, two_copies, sizeof two_copies)
  *             && send_command(TRESTLEPIP_WRITE_SPACE_1, calf, sizeof calf)
- *             && send_command(TRESTLEPIP_WRITE_SKIP(1), weight, sizeof weight);    // over the page's end to channel 1: the page is complete
+ *             && send_command(TRESTLEPIP_WRITE_NO_SPACE, total, sizeof total)    // stays on the line
+ *             && send_command(TRESTLEPIP_WRITE_SKIP(1), underscores, sizeof underscores);    // over the page's end to channel 1: the page is complete
  *         return good ? 0 : 1;
  *     }
  */
@@ -260,8 +275,11 @@ enum trestlepip_sense_3 {
 enum trestlepip_sense_places { TRESTLEPIP_SENSE_COUNT_HIGH = 22, TRESTLEPIP_SENSE_COUNT_LOW = 23 };
 
 /*
- * A cell of a page or a copy is two bytes: its code, then its rule mark, which is 1 where a rule is to be printed under the character, and else 0. Cell i
- * of a line, of a page or of a copy, counted from 0, where `cells` is the first byte of that:
+ * A cell of a page or a copy is two bytes: its code, then its rule mark, which is 1 where a rule is to be printed under the character, and else 0. A write
+ * that merges a character with an underscore, either way round, sets the mark; later writes on that line keep it. A legend's cells have mark 0. Every call
+ * except Start refuses a page with another mark, wherever it stands in it, with TRESTLEPIP_BAD_STORE.
+ *
+ * Cell i of a line, of a page or of a copy, counted from 0, where `cells` is the first byte of that:
  */
 static inline uint8_t trestlepip_code_at(const uint8_t *cells, size_t i) { return cells[TRESTLEPIP_CELL_BYTES * i]; }
 static inline uint8_t trestlepip_mark_at(const uint8_t *cells, size_t i) { return cells[TRESTLEPIP_CELL_BYTES * i + 1]; }
@@ -480,7 +498,7 @@ static inline unsigned trestlepip_fcb_lines(const uint8_t *fcb, size_t count, un
 /*
  * P, the printable lines of the FCB in use: so many lines of a composed copy are the copy's. It is 12 to 132, and 0 for a state that no printer has:
  * one that every call except Start refuses with TRESTLEPIP_BAD_STORE, whatever the other stores hold. It reads the TRESTLEPIP_STATE_BYTES bytes of
- * the state. While a page waits P stays the same.
+ * the state, and no other store: a call may refuse the page or the legends beside a good state. While a page waits P stays the same.
  */
 static inline unsigned trestlepip_printable_lines(const uint8_t *state)
 {

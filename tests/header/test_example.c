@@ -15,17 +15,18 @@ int example_main(void);
 
 enum { FORM = 264, FCB_BYTES = 88, MARGIN = 4, OLD_LINE = 75, EIGHT_PER_INCH = 0x10, OLD_CHANNEL = 2 };
 
-/* Text on line 75 of 80. */
+/* Text with a rule on line 75 of 80. */
 static bool send_old_page(void)
 {
-    static const uint8_t old[] = {0xD6, 0xD3, 0xC4};
+    static const uint8_t old[] = {0xD6, 0xD3, 0xC4}, underscores[] = {0x6D, 0x6D, 0x6D};
     uint8_t fcb[FCB_BYTES];
     for (unsigned i = 0; i < FCB_BYTES; i++)
         fcb[i] = EIGHT_PER_INCH;
     fcb[MARGIN + OLD_LINE - 1] |= OLD_CHANNEL;
     return send_command(TRESTLEPIP_LOAD_FCB, fcb, sizeof fcb)
         && send_command(TRESTLEPIP_SKIP(OLD_CHANNEL), NULL, 0)
-        && send_command(TRESTLEPIP_WRITE_SPACE_1, old, sizeof old)
+        && send_command(TRESTLEPIP_WRITE_NO_SPACE, old, sizeof old)
+        && send_command(TRESTLEPIP_WRITE_SPACE_1, underscores, sizeof underscores)
         && send_command(TRESTLEPIP_CLEAR, NULL, 0);
 }
 

@@ -35,7 +35,7 @@ static size_t put_fcb(const unsigned *spacing, unsigned half_inches, uint8_t *fc
 static bool needs_lines(struct printer *p, unsigned lines)
 {
     static uint8_t out[TRESTLEPIP_PAGE_BYTES];
-    size_t room = (size_t)lines * TRESTLEPIP_LINE_CELLS;
+    size_t room = (size_t)lines * TRESTLEPIP_LINE_BYTES;
     return lines > 0 && room <= sizeof out
         && trestlepip_number(trestlepip_compose(1, out, room, STORES(p))) == TRESTLEPIP_ACCEPTED
         && trestlepip_number(trestlepip_compose(1, out, room - 1, STORES(p))) == TRESTLEPIP_TOO_SHORT;
@@ -92,7 +92,7 @@ static void compare_form(struct printer *p, uint32_t form)
         compare_samples(p, form / HALF_INCH);
 }
 
-/* The legends are empty and the sizes right, so that only the state can get 9. A No-Op leaves it as it is. */
+/* The legends are empty, the marks are 0 and the sizes right, so that only the state can get 9. A No-Op leaves it as it is. */
 static void compare_state(struct printer *p, unsigned place)
 {
     bool refused = trestlepip_number(printer_send(p, TRESTLEPIP_NO_OP, NULL, 0)) == TRESTLEPIP_BAD_STORE;

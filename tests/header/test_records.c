@@ -76,7 +76,7 @@ static struct printer *with_page(void)
 
 static uint8_t cells[TRESTLEPIP_PAGE_BYTES];
 
-/* Composes a copy in the cells, of which so many are lent. */
+/* Composes a copy in the cells, of which so many bytes are lent. */
 static uint64_t compose(struct printer *p, unsigned copy, size_t room)
 {
     return trestlepip_compose(copy, cells, room, STORES(p));
@@ -85,7 +85,7 @@ static uint64_t compose(struct printer *p, unsigned copy, size_t room)
 static bool gives_lines(unsigned lines)
 {
     struct printer *p = with_page();
-    size_t room = (size_t)lines * TRESTLEPIP_LINE_CELLS;
+    size_t room = (size_t)lines * TRESTLEPIP_LINE_BYTES;
     return trestlepip_printable_lines(p->state) == lines && accepted(compose(p, 1, room)) && !accepted(compose(p, 1, room - 1));
 }
 
@@ -110,12 +110,16 @@ static bool gives_copy(unsigned copy, unsigned number, unsigned mark)
     return accepted(answer) && trestlepip_copy_number(answer) == number && trestlepip_mark(answer) == mark;
 }
 
-static bool gives_cells(unsigned copy, unsigned line, unsigned position, const char *text)
+/* Cells of a copy in a row: of each the code or the mark, as `byte_at` reads it. */
+static bool gives_cells(uint8_t (*byte_at)(const uint8_t *, size_t), unsigned copy, unsigned line, unsigned position, const char *text)
 {
     uint8_t expected[TRESTLEPIP_LINE_CELLS];
     size_t count = read_bytes(text, expected, sizeof expected);
-    size_t at = ((size_t)line - 1) * TRESTLEPIP_LINE_CELLS + position - 1;
-    return count > 0 && at + count <= sizeof cells && accepted(compose(with_page(), copy, sizeof cells)) && memcmp(cells + at, expected, count) == 0;
+    size_t first = ((size_t)line - 1) * TRESTLEPIP_LINE_CELLS + position - 1;
+    bool same = count > 0 && first + count <= sizeof cells / TRESTLEPIP_CELL_BYTES && accepted(compose(with_page(), copy, sizeof cells));
+    for (size_t i = 0; same && i < count; i++)
+        same = byte_at(cells, first + i) == expected[i];
+    return same;
 }
 
 static bool gives_reply(const char *text)
@@ -151,7 +155,9 @@ static bool is_so(const char *claim)
     if (sscanf(claim, "copy %u: number %u, mark %u", &a, &b, &c) == 3)
         return gives_copy(a, b, c);
     if (sscanf(claim, "copy %u, line %u, position %u: %n", &a, &b, &c, &end) == 3 && end > 0)
-        return gives_cells(a, b, c, claim + end);
+        return gives_cells(trestlepip_code_at, a, b, c, claim + end);
+    if (sscanf(claim, "marks in copy %u, line %u, position %u: %n", &a, &b, &c, &end) == 3 && end > 0)
+        return gives_cells(trestlepip_mark_at, a, b, c, claim + end);
     if (sscanf(claim, "number %u", &a) == 1)
         return gives_number(a);
     if (sscanf(claim, "cause %u", &a) == 1)
