@@ -266,7 +266,8 @@ static void make_refusals(struct making *m)
     make_refusal(m, 13, "release with the most pages between", true, release)->damage = MOST_RELEASED;
 }
 
-/* Four segments at 12 lines per inch have a limit. A call reads the whole page, which is more than the first cache holds; only there memcpy's bytes are too. */
+/* Four segments at 12 lines per inch have a limit: there memcpy's bytes are more than the first cache holds. A call's are on any form: it reads the whole
+ * page. */
 static void make_compose(struct making *m, unsigned segments, uint8_t lines, unsigned lpi)
 {
     struct work *w = next_work(m);
