@@ -276,8 +276,8 @@ enum trestlepip_sense_places { TRESTLEPIP_SENSE_COUNT_HIGH = 22, TRESTLEPIP_SENS
 
 /*
  * A cell of a page or a copy is two bytes: its code, then its rule mark, which is 1 where a rule is to be printed under the character, and else 0. A write
- * that merges a character with an underscore, either way round, sets the mark; later writes on that line keep it. A legend's cells have mark 0. Every call
- * except Start refuses a page with another mark, wherever it stands in it, with TRESTLEPIP_BAD_STORE.
+ * that merges a character with an underscore, either way round, sets the mark; later writes on the line keep it. A legend's cells have mark 0. Any other
+ * mark, wherever it stands in the page, gets TRESTLEPIP_BAD_STORE from every call except Start.
  *
  * Cell i of a line, of a page or of a copy, counted from 0, where `cells` is the first byte of that:
  */

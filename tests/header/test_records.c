@@ -156,7 +156,7 @@ static bool is_so(const char *claim)
         return gives_copy(a, b, c);
     if (sscanf(claim, "copy %u, line %u, position %u: %n", &a, &b, &c, &end) == 3 && end > 0)
         return gives_cells(trestlepip_code_at, a, b, c, claim + end);
-    if (sscanf(claim, "marks in copy %u, line %u, position %u: %n", &a, &b, &c, &end) == 3 && end > 0)
+    if (sscanf(claim, "rule marks in copy %u, line %u, position %u: %n", &a, &b, &c, &end) == 3 && end > 0)
         return gives_cells(trestlepip_mark_at, a, b, c, claim + end);
     if (sscanf(claim, "number %u", &a) == 1)
         return gives_number(a);
