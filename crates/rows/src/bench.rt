@@ -173,6 +173,7 @@ pub fn obey(
         b'#' => true,
         b'P' => stores::poke(state, seq::wide(given[0]), given[1]),
         b'G' => stores::poke(legends, double(&given, 0), given[2]),
+        b'M' => stores::poke(page, double(&given, 0), given[2]),
         b'L' => stores::resize(&given, lent),
         b'B' => stores::resize_buffer(&given, lent),
         _ => {

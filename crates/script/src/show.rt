@@ -57,12 +57,6 @@ pub fn answer(a: u64) {
     figure(b" count", a / 0x2_0000_0000_0000);
 }
 
-// A page counter's two bytes.
-fn counter(name: &[u8], high: u8, low: u8) {
-    byte(name, high);
-    byte(b"", low);
-}
-
 // The page counters, which are left out where all are 0.
 fn pages(s: &State) {
     let channel = s[Printer::CHANNEL_AT] | s[Printer::CHANNEL_AT + 1];
@@ -72,14 +66,20 @@ fn pages(s: &State) {
     if channel | transfer | fuser | stacker == 0 {
         return;
     }
-    counter(
+    pair(
         b" pages",
         s[Printer::CHANNEL_AT],
         s[Printer::CHANNEL_AT + 1],
     );
-    counter(b"", s[Printer::TRANSFER_AT], s[Printer::TRANSFER_AT + 1]);
-    counter(b"", s[Printer::FUSER_AT], s[Printer::FUSER_AT + 1]);
-    counter(b"", s[Printer::STACKER_AT], s[Printer::STACKER_AT + 1]);
+    pair(b"", s[Printer::TRANSFER_AT], s[Printer::TRANSFER_AT + 1]);
+    pair(b"", s[Printer::FUSER_AT], s[Printer::FUSER_AT + 1]);
+    pair(b"", s[Printer::STACKER_AT], s[Printer::STACKER_AT + 1]);
+}
+
+// A cell's code and mark, or a page counter's two bytes.
+pub fn pair(name: &[u8], first: u8, second: u8) {
+    byte(name, first);
+    byte(b"", second);
 }
 
 // The current line's first cell; a state may have a line that no page has.
@@ -89,7 +89,7 @@ fn cell(line: u8, page: &Page) {
     }
     let at = (seq::wide(line) - 1) * Stores::LINE_BYTES;
     if at < Stores::PAGE_BYTES {
-        byte(b" cell", page[at]);
+        pair(b" cell", page[at], page[at + 1]);
     }
 }
 

@@ -28,7 +28,7 @@ pub type Tables = [u8; TABLE_ROOM];
 
 pub type Buffer = [u8; BUFFER_ROOM];
 
-// What the buffer is full of before a call: no cell is FF, so that every byte of a copy differs from it.
+// What the buffer is full of before a call: no code and no mark is FF, so that every byte of a copy differs from it.
 pub const UNWRITTEN: u8 = 0xFF;
 
 // How many bytes are lent of state, page, legends, tables and buffer.
@@ -104,9 +104,10 @@ pub fn written(answer: u64, letter: u8, code: u8, buffer: &Buffer, page: &Page) 
     }
     if letter == b'C' {
         let copy = seq::front(buffer, n);
-        show::byte(b" cell 1", buffer[0]);
+        let last = Stores::LINE_BYTES - Stores::CELL_BYTES;
+        show::pair(b" cell 1", buffer[0], buffer[1]);
         show::count(b" cell", Stores::LINE_CELLS as u64);
-        show::byte(b"", buffer[Stores::LINE_BYTES - 1]);
+        show::pair(b"", buffer[last], buffer[last + 1]);
         show::differ(b" filled", copy, &[0; BUFFER_ROOM]);
         show::differ(b" unlike", copy, page);
     }

@@ -129,6 +129,7 @@ pub fn meant(letter: u8, n: usize) -> bool {
         b'N' => n == 0,
         b'P' => n == 2,
         b'G' => n == 3,
+        b'M' => n == 3,
         b'L' => n == 8,
         b'B' => n == 2,
         COMMAND => (0 < n) & (n < WRONG),

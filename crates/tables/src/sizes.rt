@@ -20,9 +20,10 @@ pub fn sizes() {
     size(b"size ", b"LEGEND_BYTES", Printer::LEGEND_BYTES);
     size(b"size ", b"TABLE_BYTES", Printer::TABLE_BYTES);
     size(b"size ", b"LINE_CELLS", Stores::LINE_CELLS);
+    size(b"size ", b"CELL_BYTES", Stores::CELL_BYTES);
+    size(b"size ", b"LINE_BYTES", Stores::LINE_BYTES);
     size(b"size ", b"SENSE_BYTES", Printer::SENSE_BYTES);
     size(b"size ", b"MOST_PAGES", Counters::MOST_PAGES as usize);
-    size(b"part ", b"LINE_BYTES", Stores::LINE_BYTES);
     size(b"part ", b"SLOT_BYTES", Stores::SLOT_BYTES);
 }
 
