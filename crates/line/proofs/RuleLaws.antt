@@ -9,7 +9,7 @@ use lib.ListN.{length, take, drop, replicate}
 use lib.Dec.{eqb, ltb}
 use Rattle.seq.specs.Words.{any, all, when, firstOr}
 use Rattle.seq.proofs.Laws.{or-left, or-right, map-take, map-drop}
-use Rattle.seq.proofs.Loops.{any-append, any-split}
+use Rattle.seq.proofs.Loops.{any-append, any-take, any-drop}
 use Rattle.numbers.specs.Sizes.{cellBytes, lineWidth, lineBytes}
 use Rattle.line.specs.declared.Cell.{Cell}
 use Rattle.line.specs.Cells.{unruled, ruled, stored, cellsIn, badMark, marksOk}
@@ -141,12 +141,6 @@ module _ (later : Bool) (l : ℕ) (new p : List ℕ) (first : 1 ≤ l) (inside :
       ap (map code) cells-written ∙ map-append code (take at (cellsIn p)) _
       ∙ (λ i. map-take code at (cellsIn p) i ++ map-append code after (drop lineWidth (drop at (cellsIn p))) i)
       ∙ (λ i. take at (codesIn p) ++ (line i ++ rest i))
-
-any-take : {A : Type 0} (f : A → Bool) (n : ℕ) (xs : List A) → any f xs ≡ false → any f (take n xs) ≡ false
-any-take f n xs e = or-left (any f (take n xs)) _ (sym (any-split f n xs) ∙ e)
-
-any-drop : {A : Type 0} (f : A → Bool) (n : ℕ) (xs : List A) → any f xs ≡ false → any f (drop n xs) ≡ false
-any-drop f n xs e = or-right (any f (take n xs)) _ (sym (any-split f n xs) ∙ e)
 
 none-bad : (p : List ℕ) → marksOk p ≡ true → any badMark (cellsIn p) ≡ false
 none-bad p e = go (any badMark (cellsIn p)) (sym (marks-by-cells p) ∙ e)

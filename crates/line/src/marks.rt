@@ -38,22 +38,21 @@ fn any_bad(block: &[u8]) -> bool
     is_bad(seen)
 }
 
-// Ends at the first block with a mark above 1. The last block goes back over cells of the one before it.
+// Goes from the last block to the first, so that the page's front, which a write or a copy reads next, is what the cache has read last. It ends at the
+// first block with a mark above 1; the one at the front goes again over cells of the one behind it.
 pub fn marks_ok(page: &[u8]) -> bool
     requires { ⌜ 1024 ≤ length (now page) ⌝ }
     ensures { λ r. ⌜ r ≡ marksOk (now (page .entry)) ⌝ }
 {
-    let cells = page.len() / 2;
-    let mut cell = 0;
-    while BLOCK_CELLS < cells - cell {
-        let at = 2 * cell;
-        let end = at + 2 * BLOCK_CELLS;
+    let mut cell = page.len() / 2;
+    while BLOCK_CELLS < cell {
+        let first = cell - BLOCK_CELLS;
+        let at = 2 * first;
+        let end = 2 * cell;
         if any_bad(&page[at..end]) {
             return false;
         }
-        cell += BLOCK_CELLS;
+        cell = first;
     }
-    let end = 2 * cells;
-    let last = end - 2 * BLOCK_CELLS;
-    !any_bad(&page[last..end])
+    !any_bad(&page[0..2 * BLOCK_CELLS])
 }

@@ -168,9 +168,12 @@ pub fn judge(state: &[u8], page: &[u8], legends: &[u8], tables: &[u8]) -> Found
     if !found.sound {
         return Found::NONE;
     }
+    if !legends::legends_ok(legends) {
+        return Found::NONE;
+    }
     let form = found.form;
     Found {
-        sound: legends::legends_ok(legends) & line::marks::marks_ok(page),
+        sound: line::marks::marks_ok(page),
         form: form,
     }
 }
