@@ -208,10 +208,6 @@ static inline bool legends_sound(const uint8_t *legends)
     return all_zero(legends + end, LEGEND_BYTES - end);
 }
 
-/* T-03: a block of the page, two thirds of a line. The compiler writes it out whole; of a larger one it makes a loop, which takes half as long again. */
-enum { MARK_BLOCK = LINE_BYTES * 2 / 3 };
-_Static_assert(PAGE_BYTES % MARK_BLOCK == 0 && MARK_BLOCK % sizeof(uint64_t) == 0, "the page is whole blocks of whole words");
-
 /* The bits that no mark has, in a word of four cells. */
 static inline uint64_t above_1(void)
 {
@@ -221,18 +217,28 @@ static inline uint64_t above_1(void)
     return word;
 }
 
+/* T-03: the page in blocks, each of rows of twelve words. A block of eleven rows the compiler writes out whole. */
+enum { WORD = sizeof(uint64_t), ROW_WORDS = 12, ROW_BYTES = ROW_WORDS * WORD, MARK_BLOCK = 11 * ROW_BYTES };
+_Static_assert(PAGE_BYTES % MARK_BLOCK == 0, "the page is whole blocks");
+
 static inline bool any_mark_bad(const uint8_t *block)
 {
-    uint64_t all = 0, word;
-    for (unsigned i = 0; i < MARK_BLOCK; i += sizeof word) {
-        memcpy(&word, block + i, sizeof word);
-        all |= word;
-    }
+    uint64_t row[ROW_WORDS] = { 0 }, all = 0, word;
+    for (unsigned at = 0; at < MARK_BLOCK; at += ROW_BYTES)
+        for (unsigned i = 0; i < ROW_WORDS; i++) {
+            memcpy(&word, block + at + i * WORD, WORD);
+            row[i] |= word;
+        }
+    for (unsigned i = 0; i < ROW_WORDS; i++)
+        all |= row[i];
     return (all & above_1()) != 0;
 }
 
-/* T-03: every mark of the page is 0 or 1. By words, with a test after each block: 0.75 us, the fastest of the plain ways that were tried. With one test at
- * the end words take 1.2; the marks alone, joined by `|`, 0.9 to 1.3; a test at each mark 9. */
+/*
+ * T-03: every mark of the page is 0 or 1. By words side by side, with a test after each block: 0.62 us, the fastest of the plain ways that were tried, and
+ * as long as memchr takes to read the page. Word after word takes 0.76 in blocks of 272 bytes, and 1.2 with one test at the end; the marks alone, joined
+ * by `|`, take 0.9 to 1.3; a test at each mark takes 9.
+ */
 static inline bool marks_sound(const uint8_t *page)
 {
     for (size_t at = 0; at < PAGE_BYTES; at += MARK_BLOCK)
