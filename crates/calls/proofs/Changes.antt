@@ -86,7 +86,7 @@ decode-small b =
     (λ t. cond-has (λ (x : Command). small x ≡ true) (skips b 3) (λ t. refl) (λ t. look-small b codes refl))
 
 -- Only contents that a printer can have get an accepted call.
-accepted-good : (k : Core) (c : Call) → isAccepted (refusalOf k c) ≡ true → Good k
+pub accepted-good : (k : Core) (c : Call) → isAccepted (refusalOf k c) ≡ true → Good k
 unfolding isAccepted rowOf
 accepted-good k c e = go (coreOk k) refl
   where

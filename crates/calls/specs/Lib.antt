@@ -8,3 +8,4 @@ pub mod Start
 pub mod Premises
 pub mod Lists
 pub mod Pages
+pub mod Marks

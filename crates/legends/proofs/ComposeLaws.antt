@@ -11,6 +11,7 @@ use lib.Dec.{leb, ltb, lit<}
 use borrow.Author.Tests.{leb-true, ltb-true, le-leb, lt-ltb, ltb-false}
 use Rattle.seq.proofs.Laws.{and-left, and-right, and-both}
 use Rattle.seq.proofs.Loops.{getD-map}
+use Rattle.seq.proofs.Put.{put, length-put, put-before, put-in, put-after}
 use Rattle.numbers.specs.Sizes.{cellBytes, lineWidth, lineBytes}
 use Rattle.numbers.specs.Numbers.{isSound}
 use Rattle.line.specs.declared.Cell.{Cell}
@@ -115,36 +116,6 @@ copy-alike g h n m old t p f =
     copy-is h m old (copyFrom (g ∷ []) n 0 old) (length-copyFrom (g ∷ []) n 0 old)
     (λ k l. getD-over g n k old l ∙ rw (f k l, t, p) refl)
 
--- A list with ys in the place of what stood at `at`: before, in and after it.
-module _ (at : ℕ) (ys out : List Cell) (room : at + length ys ≤ length out) where
-  abbrev put : List Cell
-  put = take at out ++ (ys ++ drop (length ys) (drop at out))
-
-  front : length (take at out) ≡ at
-  front = length-take-le at out (omega (arith, room))
-
-  length-put : length put ≡ length out
-  length-put = simp (length-append, length-take, length-drop) (omega (arith, room))
-
-  put-before : (k : ℕ) → k < at → getD put k (unruled 0) ≡ getD out k (unruled 0)
-  put-before k h = List·getD-append (take at out) _ (unruled 0) k (omega (arith, front, h)) ∙ getD-take at out k (unruled 0) h
-
-  put-rest : (k : ℕ) → at ≤ k → getD put k (unruled 0) ≡ getD (ys ++ drop (length ys) (drop at out)) (k - at) (unruled 0)
-  put-rest k h =
-      let e : k ≡ length (take at out) + (k - at) = omega (arith, front, h) in
-      ap (λ (j : ℕ). getD put j (unruled 0)) e ∙ getD-append-add (take at out) _ (k - at) (unruled 0)
-
-  put-in : (k : ℕ) → at ≤ k → k < at + length ys → getD put k (unruled 0) ≡ getD ys (k - at) (unruled 0)
-  put-in k h l = put-rest k h ∙ List·getD-append ys _ (unruled 0) (k - at) (omega arith)
-
-  put-after : (k : ℕ) → at + length ys ≤ k → getD put k (unruled 0) ≡ getD out k (unruled 0)
-  put-after k h =
-      let e : k - at ≡ length ys + (k - at - length ys) = omega arith in
-      let j : at + (length ys + (k - at - length ys)) ≡ k = omega arith in
-      put-rest k (omega arith) ∙ ap (λ (i : ℕ). getD (ys ++ drop (length ys) (drop at out)) i (unruled 0)) e ∙ getD-append-add ys _ (k - at - length ys) (unruled 0)
-      ∙ getD-drop (length ys) (drop at out) (k - at - length ys) (unruled 0) ∙ getD-drop at out (length ys + (k - at - length ys)) (unruled 0)
-      ∙ ap (λ (i : ℕ). getD out i (unruled 0)) j
-
 -- A text in several rows, as a segment for copy 0 alone: in none, and in a row more.
 abbrev pub textRows : List ℕ → ℕ → ℕ → ℕ → Segment
 textRows text row place past =
@@ -190,7 +161,7 @@ module _ (text : List ℕ) (old : List Cell) (row place : ℕ) where
         rw (t, p) (getD-map unruled 0 (unruled 0) (k - at) text (omega arith))
 
     abbrev Right : ℕ → Type 0
-    Right k = getD (put at cells out fits-row) k (unruled 0) ≡ over (rows (i + 1)) 0 k (getD old k (unruled 0))
+    Right k = getD (put at cells out) k (unruled 0) ≡ over (rows (i + 1)) 0 k (getD old k (unruled 0))
 
     each : (k : ℕ) → k < length old → Right k
     each k h = go (ltb k at) (ltb k (at + length text)) refl refl
@@ -198,17 +169,17 @@ module _ (text : List ℕ) (old : List Cell) (row place : ℕ) where
         go : (a b : Bool) → ltb k at ≡ a → ltb k (at + length text) ≡ b → Right k
         go true b u v =
             let l : k < at = ltb-true k at u in
-            put-before at cells out fits-row k l ∙ outside k h (λ c. omega (arith, c))
+            put-before (unruled 0) at cells out fits-row k l ∙ outside k h (λ c. omega (arith, c))
         go false true u v =
             let l : at ≤ k = ltb-false k at u in
             let m : k < at + length text = ltb-true k (at + length text) v in
-            put-in at cells out fits-row k l (rw as-long m) ∙ inside k l m
+            put-in (unruled 0) at cells out fits-row k l (rw as-long m) ∙ inside k l m
         go false false u v =
             let m : at + length text ≤ k = ltb-false k (at + length text) v in
-            put-after at cells out fits-row k (rw as-long m) ∙ outside k h (λ c. omega (arith, c))
+            put-after (unruled 0) at cells out fits-row k (rw as-long m) ∙ outside k h (λ c. omega (arith, c))
 
     pub rows-more : take at out ++ (cells ++ drop (length cells) (drop at out)) ≡ copyFrom (rows (i + 1) ∷ []) 0 0 old
-    rows-more = copy-is (rows (i + 1)) 0 old (put at cells out fits-row) (length-put at cells out fits-row ∙ same-size) each
+    rows-more = copy-is (rows (i + 1)) 0 old (put at cells out) (length-put (unruled 0) at cells out fits-row ∙ same-size) each
 
 -- The same in bytes: the text's cells put over the row's.
 pub rows-put : (text old out new : List ℕ) (row place i n : ℕ) → row ≤ i → place + length text ≤ lineWidth → (i + 1) * lineBytes ≤ length old

@@ -1,21 +1,24 @@
 -- What is promised about T-03: the mark of a merged cell, its code, and that writing leaves no mark but 0 and 1.
-use Prim.Native.Nat.{ℕ, zero, suc, _+_, _*_, _-_, _≤_, _<_}
+use Prim.Native.Nat.{ℕ, zero, suc, _+_, _*_, _-_, _/_, _%_, _≤_, _<_}
 use mathlib.Core.Path.{_≡_, refl, sym, ap, _∙_}
 use mathlib.Core.Bool.{Bool, true, false, cond, not, _&&_, _||_, true≢false}
 use mathlib.Core.Option.{Option}
 use mathlib.Core.List.{List, [], _∷_, _++_, map, map-append, zipWith}
 use native.Mathlib.Omega.{arith}
-use lib.ListN.{length, take, drop, replicate}
+use lib.ListN.{length, getD, take, drop, replicate}
+use lib.Seq.{getD-take, getD-drop}
 use lib.Dec.{eqb, ltb}
+use borrow.Author.Tests.{eqb-true, eqb-false, ltb-true, ltb-false}
 use Rattle.seq.specs.Words.{any, all, when, firstOr}
 use Rattle.seq.proofs.Laws.{or-left, or-right, map-take, map-drop}
-use Rattle.seq.proofs.Loops.{any-append, any-take, any-drop}
+use Rattle.seq.proofs.Loops.{any-append, any-take, any-drop, getD-map, getD-zipWith}
+use Rattle.seq.proofs.Put.{put, put-before, put-in, put-after}
 use Rattle.numbers.specs.Sizes.{cellBytes, lineWidth, lineBytes}
 use Rattle.line.specs.declared.Cell.{Cell}
 use Rattle.line.specs.Cells.{unruled, ruled, stored, cellsIn, badMark, marksOk}
 use Rattle.line.specs.Line.{isBlank, isUnderscore, mergeRules, mergeCell, isNone, collides, mergeLine, cellsAfter, lineAt, putLine, pageWritten}
 use Rattle.line.specs.Rules.{makesRule, codeRules, mergeCode, codesCollide, codesIn, codesWritten}
-use Rattle.line.proofs.StoredLaws.{cells-put, cells-take, cells-drop}
+use Rattle.line.proofs.StoredLaws.{length-cells, cells-put, cells-take, cells-drop}
 use Rattle.line.proofs.MarkLaws.{marks-by-cells}
 use Rattle.line.proofs.CellLaws.{merge-by-tests}
 use Rattle.line.proofs.LineLaws.{length-lineAt, length-cellsAfter}
@@ -99,18 +102,14 @@ line-good false old new e = unmarked new
     unmarked [] = refl
     unmarked (n ∷ new) = unmarked new
 
--- A page with a line's cells set: those before it, the line's, and those after it.
+-- A page with a line's cells set, among its cells.
 module _ (l : ℕ) (p : List ℕ) (first : 1 ≤ l) (inside : lineBytes * l ≤ length p) (cs : List Cell) (size : length cs ≡ lineWidth) where
-  abbrev before : ℕ
-  before = lineWidth * (l - 1)
-
-  pub cells-putLine : cellsIn (putLine l cs p) ≡ take before (cellsIn p) ++ (cs ++ drop lineWidth (drop before (cellsIn p)))
+  cells-putLine : cellsIn (putLine l cs p) ≡ put (lineWidth * (l - 1)) cs (cellsIn p)
   unfolding putLine
   cells-putLine =
-      let at : lineBytes * (l - 1) ≡ cellBytes * before = omega arith in
+      let at : lineBytes * (l - 1) ≡ cellBytes * (lineWidth * (l - 1)) = omega arith in
       let wide : lineBytes ≡ cellBytes * length cs = rw size refl in
-      (λ i. cellsIn (take (at i) p ++ (stored cs ++ drop (wide i) (drop (at i) p)))) ∙ cells-put before cs p (omega arith)
-      ∙ (λ i. take before (cellsIn p) ++ (cs ++ drop (size i) (drop before (cellsIn p))))
+      (λ i. cellsIn (take (at i) p ++ (stored cs ++ drop (wide i) (drop (at i) p)))) ∙ cells-put (lineWidth * (l - 1)) cs p (omega arith)
 
 -- Line l of a page, among the page's cells.
 line-cells : (l : ℕ) (p : List ℕ) → lineAt l p ≡ take lineWidth (drop (lineWidth * (l - 1)) (cellsIn p))
@@ -124,10 +123,12 @@ module _ (later : Bool) (l : ℕ) (new p : List ℕ) (first : 1 ≤ l) (inside :
   abbrev after : List Cell
   after = cellsAfter later (lineAt l p) new
 
-  pub cells-written : cellsIn (pageWritten later l new p)
-      ≡ take (lineWidth * (l - 1)) (cellsIn p) ++ (after ++ drop lineWidth (drop (lineWidth * (l - 1)) (cellsIn p)))
+  after-size : length after ≡ lineWidth
+  after-size = length-cellsAfter later (lineAt l p) new (length-lineAt l p first inside ∙ sym size) ∙ size
+
+  cells-written : cellsIn (pageWritten later l new p) ≡ put (lineWidth * (l - 1)) after (cellsIn p)
   unfolding pageWritten
-  cells-written = cells-putLine l p first inside after (length-cellsAfter later (lineAt l p) new (length-lineAt l p first inside ∙ sym size) ∙ size)
+  cells-written = cells-putLine l p first inside after after-size
 
   pub codes-written : codesIn (pageWritten later l new p) ≡ codesWritten later l new (codesIn p)
   unfolding codesWritten
@@ -137,10 +138,62 @@ module _ (later : Bool) (l : ℕ) (new p : List ℕ) (first : 1 ≤ l) (inside :
       let old : map code (lineAt l p) ≡ take lineWidth (drop at (codesIn p)) =
       ap (map code) (line-cells l p) ∙ map-take code lineWidth (drop at (cellsIn p)) ∙ ap (take lineWidth) part in
       let line = codes-after later (lineAt l p) new ∙ (λ i. cond later (zipWith mergeCode (old i) new) new) in
-      let rest = map-drop code lineWidth (drop at (cellsIn p)) ∙ ap (drop lineWidth) part in
+      let behind = drop (length after) (drop at (cellsIn p)) in
+      let rest = map-drop code (length after) (drop at (cellsIn p)) ∙ (λ i. drop (after-size i) (part i)) in
       ap (map code) cells-written ∙ map-append code (take at (cellsIn p)) _
-      ∙ (λ i. map-take code at (cellsIn p) i ++ map-append code after (drop lineWidth (drop at (cellsIn p))) i)
+      ∙ (λ i. map-take code at (cellsIn p) i ++ map-append code after behind i)
       ∙ (λ i. take at (codesIn p) ++ (line i ++ rest i))
+
+  -- Cell n after it: on line l, what the write made of the old cell and the new code; elsewhere the old cell.
+  abbrev cellAt : ℕ → Cell
+  cellAt n = getD (cellsIn p) n (unruled 0)
+
+  abbrev madeAt : ℕ → Cell
+  madeAt n = let c = getD new (n % lineWidth) 0 in cond later (mergeCell (cellAt n) c) (unruled c)
+
+  made : (n : ℕ) → n / lineWidth + 1 ≡ l → getD after (n % lineWidth) (unruled 0) ≡ madeAt n
+  unfolding cellsAfter mergeLine
+  made n e = go later refl
+    where
+      j : ℕ
+      j = n % lineWidth
+
+      place : j < length new
+      place = omega (arith, size)
+
+      at : lineWidth * (l - 1) + j ≡ n
+      at = omega (arith, e)
+
+      old : getD (lineAt l p) j (unruled 0) ≡ cellAt n
+      old =
+          ap (λ (cs : List Cell). getD cs j (unruled 0)) (line-cells l p) ∙ getD-take lineWidth (drop (lineWidth * (l - 1)) (cellsIn p)) j (unruled 0) (omega arith)
+          ∙ getD-drop (lineWidth * (l - 1)) (cellsIn p) j (unruled 0) ∙ ap cellAt at
+
+      go : (t : Bool) → later ≡ t
+          → getD (cond t (zipWith mergeCell (lineAt l p) new) (map unruled new)) j (unruled 0) ≡ cond t (mergeCell (cellAt n) (getD new j 0)) (unruled (getD new j 0))
+      go true t =
+          getD-zipWith mergeCell (unruled 0) 0 (unruled 0) j (lineAt l p) new (omega (arith, length-lineAt l p first inside)) place
+          ∙ ap (λ (c : Cell). mergeCell c (getD new j 0)) old
+      go false t = getD-map unruled 0 (unruled 0) j new place
+
+  pub cell-written : (n : ℕ) → getD (cellsIn (pageWritten later l new p)) n (unruled 0) ≡ cond (eqb (n / lineWidth + 1) l) (madeAt n) (cellAt n)
+  cell-written n = ap (λ (cs : List Cell). getD cs n (unruled 0)) cells-written ∙ go (eqb (n / lineWidth + 1) l) (ltb n before) refl refl
+    where
+      before : ℕ
+      before = lineWidth * (l - 1)
+
+      room : before + length after ≤ length (cellsIn p)
+      room = omega (arith, after-size, length-cells p, inside, first)
+
+      go : (t u : Bool) → eqb (n / lineWidth + 1) l ≡ t → ltb n before ≡ u → getD (put before after (cellsIn p)) n (unruled 0) ≡ cond t (madeAt n) (cellAt n)
+      go true u e x =
+          let on : n / lineWidth + 1 ≡ l = eqb-true _ _ e in
+          let here : n - before ≡ n % lineWidth = omega (arith, on) in
+          put-in (unruled 0) before after (cellsIn p) room n (omega (arith, on)) (omega (arith, on, after-size))
+          ∙ ap (λ (j : ℕ). getD after j (unruled 0)) here ∙ made n on
+      go false true e x = put-before (unruled 0) before after (cellsIn p) room n (ltb-true n before x)
+      go false false e x =
+          put-after (unruled 0) before after (cellsIn p) room n (omega (arith, eqb-false (n / lineWidth + 1) l e, ltb-false n before x, after-size))
 
 none-bad : (p : List ℕ) → marksOk p ≡ true → any badMark (cellsIn p) ≡ false
 none-bad p e = go (any badMark (cellsIn p)) (sym (marks-by-cells p) ∙ e)
@@ -155,16 +208,25 @@ marks-written later l new p first inside size e =
     let none = none-bad p e in
     let at = lineWidth * (l - 1) in
     let after = drop at (cellsIn p) in
+    let wide = length (cellsAfter later (lineAt l p) new) in
     let rest = any-drop badMark at (cellsIn p) none in
     let good = line-good later (lineAt l p) new (ap (any badMark) (line-cells l p) ∙ any-take badMark lineWidth after rest) in
     marks-by-cells (pageWritten later l new p)
     ∙ ap not
     (ap (any badMark) (cells-written later l new p first inside size) ∙ any-append badMark (take at (cellsIn p)) _
-    ∙ (λ i. any-take badMark at (cellsIn p) none i || any-append badMark (cellsAfter later (lineAt l p) new) (drop lineWidth after) i)
-    ∙ (λ i. good i || any-drop badMark lineWidth after rest i))
+    ∙ (λ i. any-take badMark at (cellsIn p) none i || any-append badMark (cellsAfter later (lineAt l p) new) (drop wide after) i)
+    ∙ (λ i. good i || any-drop badMark wide after rest i))
 
 pub marks-none : (n : ℕ) → marksOk (replicate n 0) ≡ true
 unfolding marksOk
 marks-none zero = refl
 marks-none (suc zero) = refl
 marks-none (suc (suc n)) = marks-none n
+
+-- A page of 00 has no mark in any cell.
+pub cells-none : (m n : ℕ) → getD (cellsIn (replicate m 0)) n (unruled 0) ≡ unruled 0
+unfolding cellsIn
+cells-none zero n = refl
+cells-none (suc zero) n = refl
+cells-none (suc (suc m)) zero = refl
+cells-none (suc (suc m)) (suc n) = cells-none m n

@@ -6,6 +6,7 @@ use native.Mathlib.Omega.{arith}
 use lib.ListN.{length, getD, take, drop, set}
 use lib.Seq.{length-take-le}
 use Rattle.seq.proofs.Loops.{filled, filled-more}
+use Rattle.seq.proofs.Put.{put}
 use Rattle.line.specs.declared.Cell.{Cell}
 use Rattle.line.specs.Cells.{unruled, stored, cellsIn}
 
@@ -86,7 +87,7 @@ stored-cells (suc n) (c ∷ m ∷ bs) e = ap (λ (l : List ℕ). c ∷ m ∷ l) 
 
 -- Cells put over those from cell a on.
 pub cells-put : (a : ℕ) (cs : List Cell) (out : List ℕ) → 2 * a ≤ length out
-    → cellsIn (take (2 * a) out ++ (stored cs ++ drop (2 * length cs) (drop (2 * a) out))) ≡ take a (cellsIn out) ++ (cs ++ drop (length cs) (drop a (cellsIn out)))
+    → cellsIn (take (2 * a) out ++ (stored cs ++ drop (2 * length cs) (drop (2 * a) out))) ≡ put a cs (cellsIn out)
 cells-put a cs out h =
     let rest = cells-drop (length cs) (drop (2 * a) out) ∙ ap (drop (length cs)) (cells-drop a out) in
     let behind = cells-append (length cs) (stored cs) _ (length-stored cs) ∙ (λ i. cells-stored cs i ++ rest i) in
