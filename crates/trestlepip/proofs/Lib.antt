@@ -7,3 +7,4 @@ pub mod Starts
 pub mod Notes
 pub mod Demand3
 pub mod Counting
+pub mod Marks

@@ -25,7 +25,7 @@ sound c = not-false _ (c .if3 .left)
 returns-3 : tie.Need-returns-3
 returns-3 c = (rw (sound-parts, sizes (c .before .before .before .before .before), flags (c .before .before .before), sym (c .before .before .judge-state .ensures .0) ∙ not-true _ (c .if3 .taken)), λ e. absurd (false≢true e))
 
-legends : (c : tie.Else4) → legendsOk (c .before .before .before .before .before .before .before .before .before .before .before .before .args .legends .now) ≡ true
+legends : (c : tie.Else4) → legendsOk (c .before .before .before .before .before .before .before .before .before .before .before .before .before .args .legends .now) ≡ true
 legends c = sym (c .before .legends-ok .ensures) ∙ not-false _ (c .if4 .left)
 
 returns-4 : tie.Need-returns-4
@@ -38,9 +38,10 @@ returns-4 c =
 
 returns-5 : tie.Need-returns-5
 returns-5 c =
-    let judged = c .before .before .before in
+    let done = c .before .before in
+    let judged = done .before .before in
     let state = judged .before .before .judge-state .ensures in (
-      rw (sound-parts, sizes (judged .before .before .before .before .before), flags (judged .before .before .before), sym (state .0) ∙ sound judged, legends (c .before)) (c .marks-ok .ensures),
+      rw (sound-parts, sizes (judged .before .before .before .before .before), flags (judged .before .before .before), sym (state .0) ∙ sound judged, legends done) (c .marks-ok .ensures),
       λ e. state .1 (sound judged),
     )
 
@@ -54,7 +55,7 @@ judge-spec =
     (λ c. (rw (sound-parts, sizes (c .before .before), sym (c .before .is-readable .ensures) ∙ not-true _ (c .if2 .taken)), λ e. absurd (false≢true e)))
     (λ c κs. readable-size _ (flags c))
     returns-3
-    (λ c κs. sizes-good _ (sizes (c .before .before .before .before .before .before)) .legends)
+    (λ c κs. sizes-good _ (sizes (c .before .before .before .before .before)) .legends)
     returns-4
     (λ c κs. omega (arith, sizes-good _ (sizes (c .before .before .before .before .before .before .before .before)) .page))
     returns-5)
