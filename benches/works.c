@@ -266,8 +266,7 @@ static void make_refusals(struct making *m)
     make_refusal(m, 13, "release with the most pages between", true, release)->damage = MOST_RELEASED;
 }
 
-/* Four segments at 12 lines per inch have a limit: there memcpy's bytes are more than the first cache holds. A call's are on any form: it reads the whole
- * page. */
+/* Four segments at 6 lines per inch have a limit. */
 static void make_compose(struct making *m, unsigned segments, uint8_t lines, unsigned lpi)
 {
     struct work *w = next_work(m);
@@ -278,7 +277,7 @@ static void make_compose(struct making *m, unsigned segments, uint8_t lines, uns
     w->damage = ALL_RULED;
     measure_often(w, 20, CALL_COMPOSE, 1, NULL, 0);
     w->copied = (size_t)printable(lpi) * TRESTLEPIP_LINE_BYTES;
-    w->limited = segments == 4 && lpi == 12;
+    w->limited = segments == 4 && lpi == 6;
 }
 
 static void make_load(struct making *m)

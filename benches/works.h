@@ -18,7 +18,7 @@ struct work {
     unsigned number;
     unsigned parts; /* how many times the round does what the name says */
     size_t copied;  /* the bytes of a composed copy, else 0 */
-    bool limited;   /* by the time that memcpy takes for those bytes: MEMCPY_LIMIT of bench.c */
+    bool limited;   /* its composing, by the time that memcpy takes for those bytes: MEMCPY_LIMIT of bench.c */
 };
 
 enum { WORKS_MOST = 48 };
