@@ -3,3 +3,4 @@ pub mod LegendLaws
 pub mod StoredLaws
 pub mod ComposeLaws
 pub mod TextLaws
+pub mod CopyCodes

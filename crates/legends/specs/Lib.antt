@@ -1,1 +1,2 @@
 pub mod Legends
+pub mod CopyCodes
