@@ -33,7 +33,8 @@ fn merge_cell(old: Cell, new: u8) -> Cell
 {
     let code = old.code;
     let takes_new = !is_blank(new) & (is_blank(code) | (is_underscore(code) & !is_underscore(new)));
-    let rules = (is_underscore(code) & is_character(new)) | (is_character(code) & is_underscore(new));
+    let rules = (is_underscore(code) & is_character(new))
+        | (is_character(code) & is_underscore(new));
     Cell {
         code: seq::pick(takes_new, new, code),
         mark: seq::pick(rules, 1, old.mark),

@@ -37,7 +37,7 @@ loop-again c =
       (
         simp length-set (search needs),
         cell-more (l .i) _ 0 (map unruled n) (a .cells .now) (l .cells) (l .inv .1 .1) (rw (length-map n unruled) here)
-        (sym (ap (λ (c : Cell). c .code) cell)) (sym (ap (λ (c : Cell). c .mark) cell)),
+            (sym (ap (λ (c : Cell). c .code) cell)) (sym (ap (λ (c : Cell). c .mark) cell)),
       ),
     )
 
