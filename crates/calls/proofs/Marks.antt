@@ -1,14 +1,14 @@
 -- T-03: what calls make of the marks. Each call's change is told; a mark is set by the merge of a character with an underscore alone, and stays until its
 -- page is released; and no calls leave another mark than 0 and 1.
-use Prim.Native.Nat.{ℕ, _+_, _*_, _%_, _/_, _≤_, _<_}
+use Prim.Native.Nat.{ℕ, _*_, _≤_, _<_}
 use mathlib.Core.Path.{_≡_, refl, sym, ap, _∙_}
-use mathlib.Core.Bool.{Bool, true, false, cond, not, _&&_, _||_, true≢false, false≢true}
+use mathlib.Core.Bool.{Bool, true, false, cond, not, _&&_, true≢false, false≢true}
 use mathlib.Core.List.{List}
 use mathlib.Core.Logic.{inl, inr}
 use native.Mathlib.Omega.{arith}
-use lib.ListN.{length, getD}
+use lib.ListN.{length}
 use lib.Dec.{eqb}
-use borrow.Author.Tests.{eqb-true, eq-eqb, ne-eqb, not-false, ltb-false}
+use borrow.Author.Tests.{eqb-true, ne-eqb, not-false, ltb-false}
 use Rattle.seq.specs.Words.{empty}
 use Rattle.seq.proofs.Laws.{and-both, or-left, or-right, cond-has}
 use Rattle.numbers.specs.Sizes.{lineWidth, lineBytes, pageSize}
@@ -19,18 +19,17 @@ use Rattle.movement.specs.Movement.{toTop}
 use Rattle.movement.proofs.MovementLaws.{down, over, Went, stays, goes}
 use Rattle.line.specs.declared.Cell.{Cell}
 use Rattle.line.specs.Cells.{unruled, marksOk}
-use Rattle.line.specs.Line.{mergeCell, pageWritten}
+use Rattle.line.specs.Line.{mergeCell}
 use Rattle.line.specs.Rules.{makesRule}
 use Rattle.line.proofs.LineLaws.{length-lineCodes}
 use Rattle.line.proofs.RuleLaws.{merged-mark, cell-written, cells-none}
 use Rattle.legends.specs.Legends.{lineOf}
 use Rattle.calls.specs.declared.Sheet.{Sheet}
-use Rattle.calls.specs.declared.Load.{Load}
 use Rattle.calls.specs.declared.Control.the-variants.{NoOp, SenseIo, Initialize, Clear, Block, Allow, Select}
 use Rattle.calls.specs.declared.Command.{Command}
 use Rattle.calls.specs.declared.Command.the-variants.{Write, Move, Controls, Loads, Unlisted}
-use Rattle.calls.specs.Core.{Stores, Core, World, started}
-use Rattle.calls.specs.Commands.{Issued, decode, controlTraits, traitsOf}
+use Rattle.calls.specs.Core.{Stores, Core, started}
+use Rattle.calls.specs.Commands.{Issued, decode, traitsOf}
 use Rattle.calls.specs.Reset.{noCells, resetStores, reset, fresh}
 use Rattle.calls.specs.Effects.{Effect, refused, done, movedSheet, written, writtenSheet, doMove, doWrite, doLoad, completing, doControl, doCommand}
 use Rattle.calls.specs.Calls.{Call, command, compose, release, tally, refusalOf, doCompose, pageCounted, emptied, released, doRelease, tallying, doTally, perform, effect}

@@ -5,8 +5,8 @@ use mathlib.Core.Bool.{Bool, true, false, cond, _&&_, false≢true}
 use mathlib.Core.List.{List, [], _∷_, _++_, map}
 use native.Mathlib.Nat.{zero-add, add-zero, le-of-suc-le-suc, not-suc-le-zero}
 use native.Mathlib.Omega.{arith}
-use lib.ListN.{length, getD, take, drop, length-map, length-append, length-take, length-drop, List·getD-append}
-use lib.Seq.{drop-at, take-add, take-take, drop-drop, getD-take, getD-drop, getD-append-add, length-take-le, ext-getD}
+use lib.ListN.{length, getD, take, drop, length-map, length-take, length-drop}
+use lib.Seq.{drop-at, take-add, take-take, drop-drop, getD-take, getD-drop, length-take-le, ext-getD}
 use lib.Dec.{leb, ltb, lit<}
 use borrow.Author.Tests.{leb-true, ltb-true, le-leb, lt-ltb, ltb-false}
 use Rattle.seq.proofs.Laws.{and-left, and-right, and-both}

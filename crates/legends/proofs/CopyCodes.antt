@@ -1,6 +1,6 @@
 -- The codes of a composed copy are what document 01 makes of the page's codes: the mark is all that T-03 adds.
 use Prim.Native.Nat.{ℕ, suc, _*_}
-use mathlib.Core.Path.{_≡_, refl, sym, ap, _∙_}
+use mathlib.Core.Path.{_≡_, refl, ap, _∙_}
 use mathlib.Core.Bool.{Bool, true, false, cond}
 use mathlib.Core.List.{List, [], _∷_, map}
 use native.Mathlib.Omega.{arith}

@@ -6,13 +6,13 @@ use mathlib.Core.List.{List, [], _∷_}
 use native.Mathlib.Omega.{arith}
 use lib.Bits.{bitOr, or-lt, or-mod, or-add-and, and-le-l, and-le-r}
 use lib.ListN.{length, getD, take, drop}
-use lib.Dec.{ltb}
-use borrow.Author.Tests.{ltb-true, ltb-false, lt-ltb, le-ltb}
+use lib.Dec.{leb, ltb}
+use borrow.Author.Tests.{leb-true, leb-false, ltb-true, ltb-false, lt-ltb, le-ltb}
 use Rattle.seq.specs.Words.{any}
 use Rattle.seq.proofs.Loops.{any-more}
 use Rattle.line.specs.declared.Cell.{Cell}
-use Rattle.line.specs.Cells.{unruled, cellsIn, badMark, marksOk}
-use Rattle.line.specs.Scan.{badWord}
+use Rattle.line.specs.Cells.{unruled, cellsIn, marksOk}
+use Rattle.line.specs.Scan.{badMark, badWord}
 use Rattle.line.proofs.StoredLaws.{length-cells, cell-at, cells-take, cells-drop}
 
 -- Good marks are those of cells of which none is bad.
@@ -20,11 +20,11 @@ pub marks-by-cells : (bs : List ℕ) → marksOk bs ≡ not (any badMark (cellsI
 unfolding marksOk cellsIn
 marks-by-cells [] = refl
 marks-by-cells (c ∷ []) = refl
-marks-by-cells (c ∷ m ∷ bs) = go (ltb 1 m) (marksOk bs) (any badMark (cellsIn bs)) (marks-by-cells bs)
+marks-by-cells (c ∷ m ∷ bs) = go (leb m 1) (any badMark (cellsIn bs)) refl (marks-by-cells bs)
   where
-    go : (t x y : Bool) → x ≡ not y → (not t && x) ≡ not (t || y)
-    go true x y e = refl
-    go false x y e = e
+    go : (t y : Bool) → leb m 1 ≡ t → marksOk bs ≡ not y → (t && marksOk bs) ≡ not (ltb 1 m || y)
+    go true y h e = rw (le-ltb 1 m (leb-true m 1 h)) e
+    go false y h e = rw (lt-ltb 1 m (leb-false m 1 h)) refl
 
 -- the cells of a part that starts at cell k and has n cells
 pub cells-part : (k n : ℕ) (s : List ℕ) → cellsIn (take (2 * n) (drop (2 * k) s)) ≡ take n (drop k (cellsIn s))

@@ -15,7 +15,8 @@ use Rattle.seq.proofs.Loops.{any-append, any-take, any-drop, getD-map, getD-zip
 use Rattle.seq.proofs.Put.{put, put-before, put-in, put-after}
 use Rattle.numbers.specs.Sizes.{cellBytes, lineWidth, lineBytes}
 use Rattle.line.specs.declared.Cell.{Cell}
-use Rattle.line.specs.Cells.{unruled, ruled, stored, cellsIn, badMark, marksOk}
+use Rattle.line.specs.Cells.{unruled, ruled, stored, cellsIn, marksOk}
+use Rattle.line.specs.Scan.{badMark}
 use Rattle.line.specs.Line.{isBlank, isUnderscore, mergeRules, mergeCell, isNone, collides, mergeLine, cellsAfter, lineAt, putLine, pageWritten}
 use Rattle.line.specs.Rules.{makesRule, codeRules, mergeCode, codesCollide, codesIn, codesWritten}
 use Rattle.line.proofs.StoredLaws.{length-cells, cells-put, cells-take, cells-drop}

@@ -1,9 +1,8 @@
 -- Document 02, T-03: a stored cell is two bytes, its code and its rule mark. The cells of the page and of a composed copy are such.
 use Prim.Native.Nat.{ℕ}
-use mathlib.Core.Bool.{Bool, true, not, _&&_}
+use mathlib.Core.Bool.{Bool, true, _&&_}
 use mathlib.Core.List.{List, [], _∷_}
-use lib.Dec.{ltb}
-use Rattle.seq.specs.Words.{any}
+use lib.Dec.{leb}
 use Rattle.line.specs.declared.Cell.{Cell}
 
 -- A code without the mark, and one with it.
@@ -24,10 +23,7 @@ cellsIn (c ∷ []) = []
 cellsIn (c ∷ m ∷ bs) = record { code = c; mark = m } ∷ cellsIn bs
 
 -- A mark is 0 or 1, in every cell of a page.
-abbrev pub badMark : Cell → Bool
-badMark c = ltb 1 (c .mark)
-
 unfoldable pub marksOk : List ℕ → Bool
 marksOk [] = true
 marksOk (c ∷ []) = true
-marksOk (c ∷ m ∷ bs) = not (ltb 1 m) && marksOk bs
+marksOk (c ∷ m ∷ bs) = leb m 1 && marksOk bs

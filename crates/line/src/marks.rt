@@ -3,8 +3,8 @@ ghost use mathlib.Core.Path.{_≡_};
 ghost use Prim.Native.Nat.{_+_, _*_, _≤_};
 ghost use lib.ListN.{length};
 ghost use Rattle.seq.specs.Words.{any};
-ghost use Rattle.line.specs.Cells.{cellsIn, badMark, marksOk};
-ghost use Rattle.line.specs.Scan.{badWord};
+ghost use Rattle.line.specs.Cells.{cellsIn, marksOk};
+ghost use Rattle.line.specs.Scan.{badMark, badWord};
 
 // The cells of a block.
 const BLOCK_CELLS: usize = 512;

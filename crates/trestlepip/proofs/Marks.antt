@@ -6,7 +6,7 @@ use mathlib.Core.Bool.{true, false}
 use mathlib.Core.List.{List}
 use lib.ListN.{length}
 use lib.Dec.{eqb}
-use Rattle.numbers.specs.Numbers.{rowOf, isAccepted}
+use Rattle.numbers.specs.Numbers.{isAccepted}
 use Rattle.line.specs.Cells.{marksOk}
 use Rattle.calls.specs.Core.{Stores}
 use Rattle.calls.specs.Calls.{Call, release, refusalOf, step}

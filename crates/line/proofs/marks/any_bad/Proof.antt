@@ -1,14 +1,14 @@
 -- After k turns the words of 2 k cells are put together, and tell whether one of their marks is bad.
-use mathlib.Core.Path.{_≡_, refl, sym, ap, _∙_}
+use mathlib.Core.Path.{_≡_, refl, ap, _∙_}
 use Prim.Native.Nat.{ℕ, _≤_, _*_, _-_}
 use native.Mathlib.Omega.{arith}
 use lib.Bits.{bitOr}
-use lib.ListN.{length, getD, take}
+use lib.ListN.{length, take}
 use borrow.Author.Needs.{needs}
 use Rattle.seq.specs.Words.{any}
 use Rattle.seq.proofs.Loops.{any-all}
-use Rattle.line.specs.Cells.{cellsIn, badMark}
-use Rattle.line.specs.Scan.{badWord}
+use Rattle.line.specs.Cells.{cellsIn}
+use Rattle.line.specs.Scan.{badMark, badWord}
 use Rattle.line.proofs.StoredLaws.{length-cells}
 use Rattle.line.proofs.MarkLaws.{word-more}
 use Rattle.line.proofs.marks.any_bad.Statement.{statement}

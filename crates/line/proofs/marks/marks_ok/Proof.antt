@@ -1,5 +1,5 @@
 -- From `cell` on no cell has a bad mark. The block at the front has all before it.
-use mathlib.Core.Path.{_≡_, refl, sym, ap, _∙_}
+use mathlib.Core.Path.{_≡_, sym, ap, _∙_}
 use mathlib.Core.Bool.{Bool, false, not, _||_, or-false}
 use Prim.Native.Nat.{ℕ, _+_, _*_, _/_, _-_, _≤_}
 use native.Mathlib.Omega.{arith}
@@ -8,7 +8,8 @@ use lib.Seq.{drop-drop}
 use borrow.Author.Needs.{needs}
 use Rattle.seq.specs.Words.{any}
 use Rattle.seq.proofs.Loops.{any-split, any-drop, any-here, any-back}
-use Rattle.line.specs.Cells.{cellsIn, badMark}
+use Rattle.line.specs.Cells.{cellsIn}
+use Rattle.line.specs.Scan.{badMark}
 use Rattle.line.proofs.StoredLaws.{length-cells, cells-take}
 use Rattle.line.proofs.MarkLaws.{marks-by-cells, cells-part}
 use Rattle.line.proofs.marks.marks_ok.Statement.{statement}
