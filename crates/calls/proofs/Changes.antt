@@ -13,6 +13,7 @@ use Rattle.seq.proofs.Laws.{and-left, and-right, or-right, cond-has}
 use Rattle.numbers.specs.Sizes.{lineWidth, legendSize}
 use Rattle.numbers.specs.declared.Checked.the-variants.{Sound}
 use Rattle.numbers.specs.Numbers.{rowOf, isAccepted}
+use Rattle.movement.specs.declared.Motion.{Motion}
 use Rattle.movement.specs.declared.Moved.{Moved}
 use Rattle.movement.specs.Movement.{toTop}
 use Rattle.movement.proofs.MovementLaws.{Went}
@@ -94,16 +95,23 @@ accepted-good k c e = go (coreOk k) refl
     go true h = good k h
     go false h = absurd (true≢false (sym e ∙ ap isAccepted (bad-store k c h)))
 
+-- The record of a write that is allowed fits a line; and what holds of a page completed and of one not started holds after Clear and Initialize.
+pub write-fits : {k : Core} {m : Motion} {i : Issued} → Allowed k (Write m) i → length (i .sent) ≤ lineWidth
+write-fits {i = i} a = ltb-false lineWidth (length (i .sent)) (or-right (empty (i .sent)) (ltb lineWidth (length (i .sent))) (a .sized))
+
+pub completing-has : (Q : Core → Type 0) (k k′ : Core) (due : Bool) → Q (movedCore due k toTop) → (started (k .state .sheet) ≡ false → Q k′) → Q (completing k due k′ .core)
+unfolding completing done
+completing-has Q k k′ due h h′ = cond-has (λ (e : Effect). Q (e .core)) (started (k .state .sheet)) (λ t. h) h′
+
 module _ {Q : Core → Type 0} (q : Survives Q) where
   by-completing : {k k′ : Core} (due : Bool) → Good k → Free k → Q k → (started (k .state .sheet) ≡ false → Q k′) → Q (completing k due k′ .core)
-  unfolding completing done
-  by-completing {k} due g f h h′ = cond-has (λ (e : Effect). Q (e .core)) (started (k .state .sheet)) (λ t. q .complete due g f h) h′
+  by-completing {k} {k′} due g f h h′ = completing-has Q k k′ due (q .complete due g f h) h′
 
   by-command : (k : Core) (c : Command) (i : Issued) → small c ≡ true → Allowed k c i → Good k → Q k → Q (doCommand k c i .core)
   unfolding doCommand doControl doWrite doMove doLoad done written writtenSheet linesNow checkOf traitsOf controlTraits refused small
   by-command k (Write m) i s a g h =
       let f = was-free refl (a .free) in
-      let fits = ltb-false lineWidth (length (i .sent)) (or-right (empty (i .sent)) (ltb lineWidth (length (i .sent))) (a .sized)) in
+      let fits = write-fits a in
       q .move (moveOf (k .state) m) (good-write (i .sent) g f fits) f (move-went m g) (q .write (i .sent) g f fits h)
   by-command k (Move m) i s a g h = q .move (moveOf (k .state) m) g (was-free refl (a .free)) (move-went m g) h
   by-command k (Controls NoOp) i s a g h = h

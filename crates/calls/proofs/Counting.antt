@@ -22,7 +22,7 @@ use Rattle.calls.specs.declared.Load.{Load}
 use Rattle.calls.specs.declared.Load.the-variants.{Fcb, TranslateTable, CopyModification, OverlaySequence, CopyNumber}
 use Rattle.calls.specs.declared.Command.{Command}
 use Rattle.calls.specs.declared.Command.the-variants.{Write, Move, Controls, Loads, Unlisted}
-use Rattle.calls.specs.Core.{Stores, Core, World, started}
+use Rattle.calls.specs.Core.{Stores, Core, World}
 use Rattle.calls.specs.Commands.{Issued, decode}
 use Rattle.calls.specs.Contents.{coreOk}
 use Rattle.calls.specs.Reset.{resetState, reset, fresh}
@@ -35,6 +35,7 @@ use Rattle.calls.specs.Pages.{countersBy, Pages, noPages, pagesByTally, 
 use Rattle.calls.proofs.Accepted.{tally-room, started-world}
 use Rattle.calls.proofs.Refused.{accepted-effect, refused-effect, not-given, release-keeps}
 use Rattle.calls.proofs.Good.{start-good}
+use Rattle.calls.proofs.Changes.{completing-has}
 use Rattle.calls.proofs.Invariants.{good-call}
 
 -- No command touches the counters: Initialize, and the reset of either kind, leave them.
@@ -47,8 +48,7 @@ load-leaves k OverlaySequence r = refl
 load-leaves k CopyNumber r = refl
 
 completing-leaves : (k k′ : Core) (due : Bool) → k′ .state .counters ≡ k .state .counters → completing k due k′ .core .state .counters ≡ k .state .counters
-unfolding completing done
-completing-leaves k k′ due e = cond-has (λ (x : Effect). x .core .state .counters ≡ k .state .counters) (started (k .state .sheet)) (λ t. refl) (λ t. e)
+completing-leaves k k′ due e = completing-has (λ (x : Core). x .state .counters ≡ k .state .counters) k k′ due refl (λ t. e)
 
 pub command-leaves : (k : Core) (c : Command) (i : Issued) → doCommand k c i .core .state .counters ≡ k .state .counters
 unfolding doCommand doControl doWrite doMove doLoad done written reset resetState refused

@@ -147,6 +147,10 @@ few-now k g =
     let f = k .state .fixed in
     few-lines (f .length) _ (form-listed (f .length) (f .pitches) (g .fixed)) (g .forms .sound)
 
+-- The current line is inside the page.
+pub line-inside : (k : Core) → Good k → lineBytes * k .state .sheet .line ≤ length (k .stores .page)
+line-inside k g = omega (arith, few-now k g, g .sheet .high, g .sizes .page)
+
 -- The core with another sheet and page, other slots and tables, other copies.
 with-sheet : {k : Core} (x : Sheet) (p : List ℕ) → Good k → SheetGood (P (k .state)) x → length p ≡ pageSize → marksOk p ≡ true
     → Good (withPage (withState k (withSheet (k .state) x)) p)
@@ -169,7 +173,7 @@ good-write {k} r g w h =
     let s = g .sheet in
     let line = k .state .sheet .line in
     let later = k .state .sheet .written in
-    let inside : lineBytes * line ≤ length (k .stores .page) = omega (arith, few-now k g, s .high, g .sizes .page) in
+    let inside = line-inside k g in
     let size = length-lineCodes _ _ r h in
     with-sheet _ _ g (record { low = s .low; high = s .high; due = s .due; written = rw w })
     (length-pageWritten line (k .stores .page) (s .low) inside later _ size ∙ g .sizes .page)

@@ -1,6 +1,6 @@
 -- T-03: what calls make of the marks. Each call's change is told; a mark is set by the merge of a character with an underscore alone, and stays until its
 -- page is released; and no calls leave another mark than 0 and 1.
-use Prim.Native.Nat.{ℕ, _*_, _≤_, _<_}
+use Prim.Native.Nat.{ℕ, _≤_, _<_}
 use mathlib.Core.Path.{_≡_, refl, sym, ap, _∙_}
 use mathlib.Core.Bool.{Bool, true, false, cond, not, _&&_, true≢false, false≢true}
 use mathlib.Core.List.{List}
@@ -8,10 +8,9 @@ use mathlib.Core.Logic.{inl, inr}
 use native.Mathlib.Omega.{arith}
 use lib.ListN.{length}
 use lib.Dec.{eqb}
-use borrow.Author.Tests.{eqb-true, ne-eqb, not-false, ltb-false}
-use Rattle.seq.specs.Words.{empty}
+use borrow.Author.Tests.{eqb-true, ne-eqb, not-false}
 use Rattle.seq.proofs.Laws.{and-both, or-left, or-right, cond-has}
-use Rattle.numbers.specs.Sizes.{lineWidth, lineBytes, pageSize}
+use Rattle.numbers.specs.Sizes.{lineWidth, pageSize}
 use Rattle.numbers.specs.Numbers.{isAccepted}
 use Rattle.movement.specs.declared.Motion.{Motion}
 use Rattle.movement.specs.declared.Moved.{Moved}
@@ -31,7 +30,7 @@ use Rattle.calls.specs.declared.Command.the-variants.{Write, Move, Contr
 use Rattle.calls.specs.Core.{Stores, Core, started}
 use Rattle.calls.specs.Commands.{Issued, decode, traitsOf}
 use Rattle.calls.specs.Reset.{noCells, resetStores, reset, fresh}
-use Rattle.calls.specs.Effects.{Effect, refused, done, movedSheet, written, writtenSheet, doMove, doWrite, doLoad, completing, doControl, doCommand}
+use Rattle.calls.specs.Effects.{Effect, refused, done, movedSheet, written, writtenSheet, doMove, doWrite, doLoad, doControl, doCommand}
 use Rattle.calls.specs.Calls.{Call, command, compose, release, tally, refusalOf, doCompose, pageCounted, emptied, released, doRelease, tallying, doTally, perform, effect}
 use Rattle.calls.specs.Start.{Asked, startRefusal, startWorld, startOutcome}
 use Rattle.calls.specs.Premises.{Good, Allowed, Free}
@@ -40,8 +39,8 @@ use Rattle.calls.specs.Marks.{cellIn, cellAt, sentAt, markWritten, markC
 use Rattle.calls.proofs.Accepted.{allowed, started-world}
 use Rattle.calls.proofs.Refused.{by-outcome}
 use Rattle.calls.proofs.Answers.{untouched, was-free}
-use Rattle.calls.proofs.Good.{few-now, start-good}
-use Rattle.calls.proofs.Changes.{Unused, Survives, accepted-good, preserved-list}
+use Rattle.calls.proofs.Good.{line-inside, start-good}
+use Rattle.calls.proofs.Changes.{Unused, Survives, accepted-good, write-fits, completing-has, preserved-list}
 use Rattle.calls.proofs.Invariants.{good-calls}
 
 same-mark : {p q : List ℕ} (n : ℕ) → p ≡ q → cellIn p n .mark ≡ cellIn q n .mark
@@ -58,8 +57,7 @@ module _ (k : Core) (r : List ℕ) (g : Good k) (fits : length r ≤ lineWidth) 
   unfolding written markWritten
   write-mark =
       let s = k .state .sheet in
-      let inside : lineBytes * s .line ≤ length (k .stores .page) = omega (arith, few-now k g, g .sheet .high, g .sizes .page) in
-      ap (λ (c : Cell). c .mark) (cell-written (s .written) (s .line) _ (k .stores .page) (g .sheet .low) inside (length-lineCodes _ _ r fits) n)
+      ap (λ (c : Cell). c .mark) (cell-written (s .written) (s .line) _ (k .stores .page) (g .sheet .low) (line-inside k g) (length-lineCodes _ _ r fits) n)
       ∙ go (eqb (lineOf n) (s .line)) (s .written)
     where
       old : Cell
@@ -73,20 +71,16 @@ module _ (k : Core) (r : List ℕ) (g : Good k) (fits : length r ≤ lineWidth) 
       go true false = refl
       go false later = refl
 
--- The page of every command but a write is as it was.
-completing-page : (k k′ : Core) (due : Bool) → k′ .stores .page ≡ k .stores .page → completing k due k′ .core .stores .page ≡ k .stores .page
-unfolding completing done
-completing-page k k′ due e = cond-has (λ (x : Effect). x .core .stores .page ≡ k .stores .page) (started (k .state .sheet)) (λ t. refl) (λ t. e)
-
+-- Every command but a write leaves the page.
 command-mark : (k : Core) (c : Command) (i : Issued) (n : ℕ) → Allowed k c i → Good k → cellAt (doCommand k c i .core) n .mark ≡ markCommanded k c (i .sent) n
 unfolding doCommand doControl doWrite doMove doLoad done reset resetStores refused markCommanded
 command-mark k (Write m) i n a g =
-    write-mark k (i .sent) g (ltb-false lineWidth (length (i .sent)) (or-right (empty (i .sent)) _ (a .sized))) n
+    write-mark k (i .sent) g (write-fits a) n
 command-mark k (Move m) i n a g = refl
 command-mark k (Controls NoOp) i n a g = refl
 command-mark k (Controls SenseIo) i n a g = refl
-command-mark k (Controls Initialize) i n a g = same-mark n (completing-page k (reset k) true refl)
-command-mark k (Controls Clear) i n a g = same-mark n (completing-page k k false refl)
+command-mark k (Controls Initialize) i n a g = same-mark n (completing-has (λ (x : Core). x .stores .page ≡ k .stores .page) k (reset k) true refl (λ t. refl))
+command-mark k (Controls Clear) i n a g = same-mark n (completing-has (λ (x : Core). x .stores .page ≡ k .stores .page) k k false refl (λ t. refl))
 command-mark k (Controls Block) i n a g = refl
 command-mark k (Controls Allow) i n a g = refl
 command-mark k (Controls (Select s)) i n a g = refl

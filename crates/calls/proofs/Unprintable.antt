@@ -8,9 +8,7 @@ use native.Mathlib.Omega.{arith}
 use lib.ListN.{length}
 use lib.Dec.{eqb}
 use borrow.Author.Tests.{ltb-false}
-use Rattle.seq.specs.Words.{empty}
-use Rattle.seq.proofs.Laws.{or-right}
-use Rattle.numbers.specs.Sizes.{lineWidth, legendSize}
+use Rattle.numbers.specs.Sizes.{legendSize}
 use Rattle.numbers.specs.declared.Answer.{Answer}
 use Rattle.numbers.specs.declared.Sense.{Sense}
 use Rattle.numbers.specs.declared.Checked.the-variants.{Sound}
@@ -31,6 +29,7 @@ use Rattle.calls.specs.Calls.{Call, command, compose, release, tally, ch
 use Rattle.calls.specs.Premises.{Allowed}
 use Rattle.calls.proofs.Accepted.{allowed}
 use Rattle.calls.proofs.Refused.{by-outcome}
+use Rattle.calls.proofs.Changes.{write-fits}
 use Rattle.calls.proofs.Answers.{causesOf, Shape, sets, quiet, performed, acted}
 
 -- The unprintable positions of what a command translates, through the table that serves: a write's record, a legend load's texts; others have none.
@@ -144,7 +143,7 @@ load-tells k CopyNumber r h e = none-tells
 command-tells : (k : Core) (c : Command) (i : Issued) → Allowed k c i → Tells (told (unprintableIn k c (i .sent)))
 unfolding checkOf
 command-tells k (Write m) i a =
-    let h = ltb-false lineWidth (length (i .sent)) (or-right (empty (i .sent)) _ (a .sized)) in
+    let h = write-fits a in
     let t = serving (k .state .slots) (k .stores .tables) in
     told-tells (through k (i .sent)) (unprintable-positions _ t (i .sent) h) (omega (arith, h, unprintable-few (k .state .fixed .pitches) t (i .sent)))
 command-tells k (Move m) i a = none-tells

@@ -11,11 +11,9 @@ use Rattle.line.specs.declared.Cell.{Cell}
 use Rattle.line.specs.Cells.{unruled, cellsIn}
 use Rattle.line.specs.Rules.{codesIn}
 use Rattle.line.proofs.StoredLaws.{cells-take, cells-stored}
+use Rattle.line.proofs.RuleLaws.{code}
 use Rattle.legends.specs.Legends.{Segment, segmentOf, storedSegments, covers, shown, lineOf, positionOf, copyFrom, composed}
 use Rattle.legends.specs.CopyCodes.{shownCode, codesFrom}
-
-abbrev code : Cell → ℕ
-code c = c .code
 
 shown-code : (gs : List Segment) (number line position : ℕ) (c : Cell) → shown gs number line position c .code ≡ shownCode gs number line position (c .code)
 unfolding shown shownCode

@@ -19,8 +19,8 @@ use Rattle.line.specs.Cells.{unruled, ruled, stored, cellsIn, marksOk}
 use Rattle.line.specs.Scan.{badMark}
 use Rattle.line.specs.Line.{isBlank, isUnderscore, mergeRules, mergeCell, isNone, collides, mergeLine, cellsAfter, lineAt, putLine, pageWritten}
 use Rattle.line.specs.Rules.{makesRule, codeRules, mergeCode, codesCollide, codesIn, codesWritten}
-use Rattle.line.proofs.StoredLaws.{length-cells, cells-put, cells-take, cells-drop}
-use Rattle.line.proofs.MarkLaws.{marks-by-cells}
+use Rattle.line.proofs.StoredLaws.{length-cells, cells-put}
+use Rattle.line.proofs.MarkLaws.{marks-by-cells, cells-part}
 use Rattle.line.proofs.CellLaws.{merge-by-tests}
 use Rattle.line.proofs.LineLaws.{length-lineAt, length-cellsAfter}
 
@@ -61,7 +61,7 @@ module _ (old : Cell) (new : ℕ) where
   pub merged-clash : collides old new ≡ codesCollide (old .code) new
   merged-clash = merged .1
 
-abbrev code : Cell → ℕ
+abbrev pub code : Cell → ℕ
 code c = c .code
 
 -- So the codes of a page are what document 01 makes of them, and the mark is all that T-03 adds.
@@ -116,9 +116,8 @@ module _ (l : ℕ) (p : List ℕ) (first : 1 ≤ l) (inside : lineBytes * l ≤ 
 line-cells : (l : ℕ) (p : List ℕ) → lineAt l p ≡ take lineWidth (drop (lineWidth * (l - 1)) (cellsIn p))
 unfolding lineAt
 line-cells l p =
-    let before = lineWidth * (l - 1) in
-    let at : lineBytes * (l - 1) ≡ cellBytes * before = omega arith in
-    (λ i. cellsIn (take lineBytes (drop (at i) p))) ∙ cells-take lineWidth (drop (cellBytes * before) p) ∙ ap (take lineWidth) (cells-drop before p)
+    let at : lineBytes * (l - 1) ≡ cellBytes * (lineWidth * (l - 1)) = omega arith in
+    (λ i. cellsIn (take lineBytes (drop (at i) p))) ∙ cells-part (lineWidth * (l - 1)) lineWidth p
 
 module _ (later : Bool) (l : ℕ) (new p : List ℕ) (first : 1 ≤ l) (inside : lineBytes * l ≤ length p) (size : length new ≡ lineWidth) where
   abbrev after : List Cell

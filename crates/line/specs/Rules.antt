@@ -1,6 +1,6 @@
 -- The words of what is promised about T-03: when a merge sets a mark; and document 01's merge of codes alone, as it was before T-03.
 use Prim.Native.Nat.{ℕ, _*_, _-_}
-use mathlib.Core.Bool.{Bool, cond, not, _&&_, _||_}
+use mathlib.Core.Bool.{Bool, cond, _&&_, _||_}
 use mathlib.Core.Option.{Option}
 use mathlib.Core.List.{List, [], _∷_, _++_, map, zipWith}
 use lib.ListN.{take, drop}
@@ -9,12 +9,9 @@ use Rattle.seq.specs.Words.{all, when, firstOr}
 use Rattle.numbers.specs.Sizes.{lineWidth}
 use Rattle.line.specs.declared.Cell.{Cell}
 use Rattle.line.specs.Cells.{cellsIn}
-use Rattle.line.specs.Line.{isBlank, isUnderscore, isNone}
+use Rattle.line.specs.Line.{isBlank, isUnderscore, isCharacter, isNone}
 
--- A character is neither blank nor underscore. A rule comes of a character with an underscore, either way round.
-abbrev pub isCharacter : ℕ → Bool
-isCharacter c = not (isBlank c) && not (isUnderscore c)
-
+-- A rule comes of a character with an underscore, either way round.
 unfoldable pub makesRule : ℕ → ℕ → Bool
 makesRule old new = (isUnderscore old && isCharacter new) || (isCharacter old && isUnderscore new)
 

@@ -2,12 +2,12 @@
 use crate::Cell;
 use crate::cells;
 ghost use mathlib.Core.Path.{_≡_};
-ghost use mathlib.Core.Bool.{not, _&&_};
+ghost use mathlib.Core.Bool.{_&&_};
 ghost use Prim.Native.Nat.{_*_};
 ghost use lib.ListN.{length};
 ghost use Rattle.numbers.specs.Sizes.{cellBytes};
 ghost use Rattle.line.specs.Cells.{cellsIn, stored};
-ghost use Rattle.line.specs.Line.{isBlank, isUnderscore, mergeCell, collides, mergeLine, anyCollides, cellsAfter};
+ghost use Rattle.line.specs.Line.{isBlank, isUnderscore, isCharacter, mergeCell, collides, mergeLine, anyCollides, cellsAfter};
 
 fn is_blank(code: u8) -> bool
     ensures { λ r. ⌜ r ≡ isBlank code ⌝ }
@@ -22,7 +22,7 @@ fn is_underscore(code: u8) -> bool
 }
 
 fn is_character(code: u8) -> bool
-    ensures { λ r. ⌜ r ≡ (not (isBlank code) && not (isUnderscore code)) ⌝ }
+    ensures { λ r. ⌜ r ≡ isCharacter code ⌝ }
 {
     !is_blank(code) & !is_underscore(code)
 }
