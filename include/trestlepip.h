@@ -6,7 +6,7 @@
  *
  * Below stand, in this order: a whole program as an example; the sizes of the buffers; the command bytes; the numbers and causes that an answer may
  * have, and its fields; the bits of status and sense; what a cell of a page is; the places in the state; the calls, each with its refusals; what
- * reads the page counters; and trestlepip_printable_lines, which says how many lines a copy has. Elsewhere stand:
+ * reads the page counters; the feet of paper; and trestlepip_printable_lines, which says how many lines a copy has. Elsewhere stand:
  *   - docs/NUMBERS.md, the programmer's card: what a program does about each number, cause and check;
  *   - docs/RECORDS.md: the record of each load byte by byte, with an example;
  *   - docs/STATE.md: the state byte by byte, with the range of each field; the page's bytes;
@@ -18,6 +18,7 @@
  * What the host owes, and no proof covers:
  *   - each length is that of memory which the host may read, and which it may write where the parameter is not const;
  *   - the buffers of one call do not overlap;
+ *   - the pointer for the feet of paper is not null, and points to a double that the host may write;
  *   - no other thread touches them during the call. Printers with buffers of their own may be used by several threads at once.
  *
  * The example compiles as it stands, and is tested so (tests/header/):
@@ -176,7 +177,8 @@ enum trestlepip_numbers {
     TRESTLEPIP_BAD_FORM = 10,     /* the form length or a pitch is not listed */
     TRESTLEPIP_TWO_PAGES = 11,    /* one command would complete two pages */
     TRESTLEPIP_NONE_BETWEEN = 12, /* no page is between this station and the one before it */
-    TRESTLEPIP_MOST_BETWEEN = 13  /* 32,767 pages are released and not yet stacked */
+    TRESTLEPIP_MOST_BETWEEN = 13, /* 32,767 pages are released and not yet stacked */
+    TRESTLEPIP_BAD_PAPER = 16     /* for feet of paper: the form length is not listed, or the copies are not 1 to 255 */
 };
 
 /* The cause of a load check. */
@@ -400,6 +402,15 @@ uint64_t trestlepip_cancel(
 uint64_t trestlepip_restart(
         uint8_t *state, size_t state_len, const uint8_t *page, size_t page_len,
         const uint8_t *legends, size_t legends_len, const uint8_t *tables, size_t tables_len);
+
+/*
+ * Feet: the paper that one transmission takes. `initial` and `final` are the channel's page counter before and after it (trestlepip_channel_page). The
+ * pages are the difference of the two modulo 65,536, so that the counter may have gone on from FFFF to 0000; `copies` are those of each page, from 1 to
+ * 255; `form` is the form length in 24ths of an inch, as for Start. A foot has 288 of these: the feet are pages times copies times length, over 288.
+ * `*feet` is set to the double nearest to this fraction. It is equal to it where a double is, and never further from it than 2 to the power -30 feet,
+ * which is less than a billionth of a foot. Refusal: 16, and then `*feet` is 0.0. This call is lent no stores, and tells nothing but its number.
+ */
+uint64_t trestlepip_feet(uint16_t initial, uint16_t final, uint32_t copies, uint32_t form, double *feet);
 
 /*
  * The rest is trestlepip_printable_lines, which stands last, and what it is made of. Each part judges some fields of a state as docs/STATE.md says, so

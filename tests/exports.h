@@ -9,6 +9,7 @@ typedef __typeof__(trestlepip_command) command_call;
 typedef __typeof__(trestlepip_compose) compose_call;
 typedef __typeof__(trestlepip_release) release_call;
 typedef __typeof__(trestlepip_transferred) tally_call; /* and of fused, stacked, cancel and restart */
+typedef __typeof__(trestlepip_feet) feet_call;
 
 /* The calls of one program. */
 struct exports {
@@ -17,11 +18,13 @@ struct exports {
     compose_call *compose;
     release_call *release;
     tally_call *transferred, *fused, *stacked, *cancel, *restart;
+    feet_call *feet;
 };
 
 /* Those whose names begin so. */
 #define EXPORTS(name) \
     { name##_start, name##_command, name##_compose, name##_release, \
-      name##_transferred, name##_fused, name##_stacked, name##_cancel, name##_restart }
+      name##_transferred, name##_fused, name##_stacked, name##_cancel, name##_restart, \
+      name##_feet }
 
 #endif
