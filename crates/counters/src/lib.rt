@@ -30,7 +30,7 @@ fn next(count: u16) -> u16
 }
 
 // The pages between two counters, of which the second is the later on the paper path.
-fn between(count: u16, later: u16) -> u16
+pub fn between(count: u16, later: u16) -> u16
     ensures { λ r. ⌜ r ≡ between count later ⌝ }
 {
     std::num::wrapping_sub_u16(count, later)

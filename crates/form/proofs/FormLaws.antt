@@ -65,7 +65,7 @@ pub short-form : (n : ℕ) → listed formLengths n ≡ true → n ≤ longest
 unfolding formLengths
 short-form n e = leb-true n longest (listed-all (λ m. leb m longest) n formLengths refl e)
 
-long-form : (n : ℕ) → listed formLengths n ≡ true → shortest ≤ n
+pub long-form : (n : ℕ) → listed formLengths n ≡ true → shortest ≤ n
 unfolding formLengths
 long-form n e = leb-true shortest n (listed-all (λ m. leb shortest m) n formLengths refl e)
 

@@ -254,7 +254,7 @@ pub fn judge(form: u16, fcb: &[u8], count: u8) -> Judged
     }
 }
 
-fn length_listed(form: u32) -> bool
+pub fn length_listed(form: u32) -> bool
     ensures { λ r. ⌜ r ≡ listed formLengths form ⌝ }
 {
     (form == 84)

@@ -5,7 +5,7 @@ use mathlib.Core.Path.{_≡_, refl, sym, ap, _∙_}
 use mathlib.Core.Bool.{Bool, true, false, true≢false, false≢true}
 use mathlib.Core.Option.{Option}
 use mathlib.Core.Logic.{_⊎_, inl, inr}
-use mathlib.Core.List.{List, [], _∷_, map}
+use mathlib.Core.List.{List, [], _∷_, _++_, map}
 use native.Mathlib.Omega.{arith}
 use borrow.Author.Tests.{eq-eqb}
 use Rattle.seq.specs.Words.{firstOr, when, listed, from}
@@ -15,16 +15,16 @@ use Rattle.numbers.specs.declared.Cause.the-variants.{FcbChannel, FcbSpa
 use Rattle.numbers.specs.declared.Checked.{Checked}
 use Rattle.numbers.specs.declared.Checked.the-variants.{Sound, Faulty}
 use Rattle.numbers.specs.declared.Refusal.{Refusal}
-use Rattle.numbers.specs.declared.Refusal.the-variants.{Accepted, NotListed, BadRecord, LoadCheck, PageWaiting, PageStarted, NoPage, BadIndex, TooShort, BadStore, BadForm, TwoPages, NoneBetween, MostBetween}
+use Rattle.numbers.specs.declared.Refusal.the-variants.{Accepted, NotListed, BadRecord, LoadCheck, PageWaiting, PageStarted, NoPage, BadIndex, TooShort, BadStore, BadForm, TwoPages, NoneBetween, MostBetween, BadPaper}
 use Rattle.numbers.specs.declared.SenseStep.{SenseStep}
 use Rattle.numbers.specs.declared.SenseStep.the-variants.{Keep, Anew, NoSense}
 use Rattle.numbers.specs.Numbers.{causeOf, rowOf, numberOf, isAccepted, checked, isSound}
 
--- Numbers 0 to 13 and causes 1 to 10, in the order in which they are declared.
+-- Numbers 0 to 13 and 16, and causes 1 to 10, in the order in which they are declared.
 pub every-number : map numberOf
     (Accepted ∷ NotListed ∷ BadRecord ∷ LoadCheck FcbSum ∷ PageWaiting ∷ PageStarted ∷ NoPage ∷ BadIndex ∷ TooShort ∷ BadStore ∷ BadForm ∷ TwoPages
-    ∷ NoneBetween ∷ MostBetween ∷ [])
-    ≡ from 0 14
+    ∷ NoneBetween ∷ MostBetween ∷ BadPaper ∷ [])
+    ≡ from 0 14 ++ 16 ∷ []
 unfolding rowOf
 every-number = refl
 
@@ -75,7 +75,7 @@ pub record Facts (n m : ℕ) (x : Refusal) : Type 0 where
   -- the others keep it, except a refused Start, which leaves none
   pub keeps : tells x ≡ false → eqb (numberOf x) 10 ≡ false → rowOf n x .sense ≡ Keep
   -- number, status and cause fit their fields of a packed answer
-  pub numberMost : numberOf x ≤ 13
+  pub numberMost : numberOf x ≤ 16
   pub statusMost : rowOf n x .status ≤ 16
   pub causeMost : rowOf n x .cause ≤ 10
   -- the number is the same for all records, and so is the row, but for a load check, whose sense can show the record's byte count
@@ -97,6 +97,7 @@ facts n m BadForm = record { zero = λ e. absurd (false≢true e); anew = refl; 
 facts n m TwoPages = record { zero = λ e. absurd (false≢true e); anew = refl; check = refl; keeps = λ t f. refl; numberMost = lit≤ tt; statusMost = lit≤ tt; causeMost = lit≤ tt; same = λ h. refl }
 facts n m NoneBetween = record { zero = λ e. absurd (false≢true e); anew = refl; check = refl; keeps = λ t f. refl; numberMost = lit≤ tt; statusMost = lit≤ tt; causeMost = lit≤ tt; same = λ h. refl }
 facts n m MostBetween = record { zero = λ e. absurd (false≢true e); anew = refl; check = refl; keeps = λ t f. refl; numberMost = lit≤ tt; statusMost = lit≤ tt; causeMost = lit≤ tt; same = λ h. refl }
+facts n m BadPaper = record { zero = λ e. absurd (false≢true e); anew = refl; check = refl; keeps = λ t f. refl; numberMost = lit≤ tt; statusMost = lit≤ tt; causeMost = lit≤ tt; same = λ h. refl }
 
 pub accepted-is : (x : Refusal) → isAccepted x ≡ true → x ≡ Accepted
 accepted-is x = facts 0 0 x .zero

@@ -14,7 +14,7 @@ use Rattle.numbers.specs.declared.Cause.the-variants.{FcbChannel, FcbSpa
 use Rattle.numbers.specs.declared.Checked.{Checked}
 use Rattle.numbers.specs.declared.Checked.the-variants.{Sound, Faulty}
 use Rattle.numbers.specs.declared.Refusal.{Refusal}
-use Rattle.numbers.specs.declared.Refusal.the-variants.{Accepted, NotListed, BadRecord, LoadCheck, PageWaiting, PageStarted, NoPage, BadIndex, TooShort, BadStore, BadForm, TwoPages, NoneBetween, MostBetween}
+use Rattle.numbers.specs.declared.Refusal.the-variants.{Accepted, NotListed, BadRecord, LoadCheck, PageWaiting, PageStarted, NoPage, BadIndex, TooShort, BadStore, BadForm, TwoPages, NoneBetween, MostBetween, BadPaper}
 
 -- Sense bytes 0, 1 and 2, the others 00.
 abbrev pub sense3 : ℕ → ℕ → ℕ → Sense
@@ -60,7 +60,7 @@ abbrev pub checkRow : Caused → Row
 checkRow c = record { number = 3; status = 0x0E; sense = Anew (c .sense); cause = c .number }
 
 -- The table of numbers. Row 0 has the status without its additions, and leaves the sense to the command. Row 5 is (house).
--- Rows 12 and 13 are T-02's.
+-- Rows 12 and 13 are T-02's, row 16 is T-04's.
 unfoldable pub rowOf : ℕ → Refusal → Row
 rowOf n Accepted = rowWith 0 0x0C Keep
 rowOf n NotListed = rowTelling 1 0x80 0x80
@@ -76,6 +76,7 @@ rowOf n BadForm = rowWith 10 0x00 NoSense
 rowOf n TwoPages = rowWith 11 0x00 Keep
 rowOf n NoneBetween = rowWith 12 0x00 Keep
 rowOf n MostBetween = rowWith 13 0x00 Keep
+rowOf n BadPaper = rowWith 16 0x00 Keep
 
 abbrev pub numberOf : Refusal → ℕ
 numberOf x = rowOf 0 x .number

@@ -23,7 +23,7 @@ impl Stores {
     pub const TABLE_BYTES: usize = 4 * Stores::SLOT_BYTES;
 }
 
-// The rows of the paper's table of numbers, and T-02's two. Accepted, row 0, is no refusal.
+// The rows of the paper's table of numbers, T-02's two, and T-04's. Accepted, row 0, is no refusal.
 pub enum Refusal {
     Accepted,
     NotListed,
@@ -39,6 +39,7 @@ pub enum Refusal {
     TwoPages,
     NoneBetween,
     MostBetween,
+    BadPaper,
 }
 
 // Which cause of its load's order a load check found first.
@@ -284,6 +285,7 @@ impl Refusal {
             Refusal::TwoPages => row_with(11, 0, SenseStep::Keep),
             Refusal::NoneBetween => row_with(12, 0, SenseStep::Keep),
             Refusal::MostBetween => row_with(13, 0, SenseStep::Keep),
+            Refusal::BadPaper => row_with(16, 0, SenseStep::Keep),
         }
     }
 

@@ -1,0 +1,3 @@
+pub mod PaperLaws
+mod Rounding
+pub mod Distance

@@ -1,0 +1,58 @@
+-- Laws of the numbers that 16 lets pass, and of their product.
+use Prim.Native.Nat.{ℕ, zero, suc, _+_, _-_, _*_, _%_, _^_, _≤_, _<_}
+use mathlib.Core.Path.{_≡_, refl, sym, ap}
+use mathlib.Core.Bool.{true, false, not}
+use mathlib.Core.Logic.{_⊎_, inl, inr}
+use native.Mathlib.Omega.{arith}
+use native.Mathlib.Nat.{le-trans, mul-le-mul-right, mul-le-mul-left, mod-lt}
+use lib.Dec.{eqb, ltb, lit≤, lit<}
+use borrow.Author.Tests.{ltb-false, eqb-false, not-false}
+use Rattle.seq.specs.Words.{listed}
+use Rattle.seq.proofs.Laws.{or-left, or-right}
+use Rattle.form.specs.Form.{formLengths}
+use Rattle.form.proofs.FormLaws.{shortest, longest, short-form, long-form}
+use Rattle.copies.specs.Copies.{mostCopies}
+use Rattle.counters.specs.Counters.{between, mostCount}
+use Rattle.paper.specs.Feet.{Sent, sent, product, badPaper}
+
+pub record Passes (copies form : ℕ) : Type 0 where
+  pub long : shortest ≤ form
+  pub short : form ≤ longest
+  pub some : 1 ≤ copies
+  pub few : copies ≤ mostCopies
+
+pub passes : (copies form : ℕ) → badPaper copies form ≡ false → Passes copies form
+unfolding badPaper
+passes copies form e =
+    let known = not-false _ (or-left (not (listed formLengths form)) _ e) in
+    let counted = or-right (not (listed formLengths form)) _ e in
+    let other = eqb-false copies 0 (or-left (eqb copies 0) _ counted) in
+    record {
+      long = long-form form known;
+      short = short-form form known;
+      some = omega (arith, other);
+      few = ltb-false _ _ (or-right (eqb copies 0) _ counted);
+    }
+
+pub pages-most : (m n : ℕ) → between m n ≤ mostCount
+pages-most m n = omega arith
+
+-- the largest product: as many pages as identifiers can differ by, in as many copies as there may be, on the longest form
+abbrev pub mostProduct : ℕ
+mostProduct = mostCount * mostCopies * longest
+
+pub times-most : {a b c d : ℕ} → a ≤ b → c ≤ d → a * c ≤ b * d
+times-most {a} {b} {c} {d} h k = le-trans (mul-le-mul-right c h) (mul-le-mul-left b k)
+
+pub product-most : (t : Sent) → badPaper (t .copies) (t .form) ≡ false → product t ≤ mostProduct
+unfolding product
+product-most t e = let g = passes _ _ e in times-most (times-most (pages-most (t .final) (t .initial)) (g .few)) (g .short)
+
+-- no paper, or a page of the shortest form at least
+pub product-least : (t : Sent) → badPaper (t .copies) (t .form) ≡ false → (product t ≡ 0) ⊎ (shortest ≤ product t)
+unfolding product
+product-least t e = some (between (t .final) (t .initial))
+  where
+    some : (pages : ℕ) → (pages * t .copies * t .form ≡ 0) ⊎ (shortest ≤ pages * t .copies * t .form)
+    some zero = inl (omega arith)
+    some (suc n) = let g = passes _ _ e in inr (times-most {a = 1} (times-most {a = 1} {b = suc n} (omega arith) (g .some)) (g .long))
