@@ -26,8 +26,11 @@ near-some p fit l =
       apart = λ k h. record { not-above = shown-not-above p quarter (lit< tt) l k h; not-below = shown-not-below p quarter (lit< tt) l k h };
     }
 
--- Every product that is shown is less than 2 ^ 26 quarter feet, which are 2 ^ 24 feet.
 module _ (t : Sent) (e : badPaper (t .copies) (t .form) ≡ false) where
+  -- less than 2 ^ 26 quarter feet, which are 2 ^ 24 feet
+  pub under : product t < quarter * 2 ^ 26
+  under = lt-of-le-of-lt (product-most t e) (lit< tt)
+
   fit : product t < 2 ^ 53
   fit = lt-of-le-of-lt (product-most t e) (lit< tt)
 
@@ -41,7 +44,7 @@ module _ (t : Sent) (e : badPaper (t .copies) (t .form) ≡ false) where
 
   -- The largest distance: 288 × 2 ^ 24 over 288 × 2 ^ 54, which is 2 ^ -30 feet, less than a billionth of a foot.
   pub farthest : Apart (product t) (near .n) (footUnits * 2 ^ 24)
-  farthest = near .apart 26 (lt-of-le-of-lt (product-most t e) (lit< tt))
+  farthest = near .apart 26 under
 
   -- Equal where the fraction is a double. It is one exactly where 9 divides the product.
   pub exact-by-nine : product t % 9 ≡ 0 → Is (paperUsed t .feet) (product t) footUnits

@@ -1,19 +1,23 @@
 -- Laws of the numbers that 16 lets pass, and of their product.
 use Prim.Native.Nat.{ℕ, zero, suc, _+_, _-_, _*_, _%_, _^_, _≤_, _<_}
 use mathlib.Core.Path.{_≡_, refl, sym, ap}
-use mathlib.Core.Bool.{true, false, not}
+use mathlib.Core.Bool.{Bool, true, false, not, cond}
 use mathlib.Core.Logic.{_⊎_, inl, inr}
+use mathlib.Core.List.{[], _∷_, map}
 use native.Mathlib.Omega.{arith}
 use native.Mathlib.Nat.{le-trans, mul-le-mul-right, mul-le-mul-left, mod-lt}
 use lib.Dec.{eqb, ltb, lit≤, lit<}
+use lib.IntN.{pos, negsuc}
+use lib.Ieee.{fin, round}
 use borrow.Author.Tests.{ltb-false, eqb-false, not-false}
 use Rattle.seq.specs.Words.{listed}
 use Rattle.seq.proofs.Laws.{or-left, or-right}
+use Rattle.numbers.specs.Numbers.{rowOf, numberOf}
 use Rattle.form.specs.Form.{formLengths}
 use Rattle.form.proofs.FormLaws.{shortest, longest, short-form, long-form}
 use Rattle.copies.specs.Copies.{mostCopies}
 use Rattle.counters.specs.Counters.{between, mostCount}
-use Rattle.paper.specs.Feet.{Sent, sent, product, badPaper}
+use Rattle.paper.specs.Feet.{Sent, sent, product, badPaper, noFeet, refusedPaper, shownPaper, paperUsed}
 
 pub record Passes (copies form : ℕ) : Type 0 where
   pub long : shortest ≤ form
@@ -56,3 +60,34 @@ product-least t e = some (between (t .final) (t .initial))
     some : (pages : ℕ) → (pages * t .copies * t .form ≡ 0) ⊎ (shortest ≤ pages * t .copies * t .form)
     some zero = inl (omega arith)
     some (suc n) = let g = passes _ _ e in inr (times-most {a = 1} (times-most {a = 1} {b = suc n} (omega arith) (g .some)) (g .long))
+
+-- 16 is given exactly for such numbers, whatever the identifiers, and then the feet are +0.
+pub sixteen-exactly : (t : Sent) → eqb (numberOf (paperUsed t .refusal)) 16 ≡ badPaper (t .copies) (t .form)
+unfolding paperUsed rowOf
+sixteen-exactly t = by (badPaper (t .copies) (t .form)) refl
+  where
+    by : (b : Bool) → badPaper (t .copies) (t .form) ≡ b → eqb (numberOf (cond b refusedPaper (shownPaper (product t)) .refusal)) 16 ≡ b
+    by true e = refl
+    by false e = refl
+
+pub sixteen-none : (t : Sent) → badPaper (t .copies) (t .form) ≡ true → paperUsed t .feet ≡ noFeet
+unfolding paperUsed
+sixteen-none t e = rw e
+
+-- Of form lengths and copies, those next to the listed ones and at both ends are refused, and so is a length in half inches.
+pub sixteen-table : map (λ n. badPaper 1 n) (0 ∷ 7 ∷ 71 ∷ 72 ∷ 73 ∷ 84 ∷ 132 ∷ 264 ∷ 287 ∷ 288 ∷ 289 ∷ [])
+    ≡ true ∷ true ∷ true ∷ false ∷ true ∷ false ∷ false ∷ false ∷ true ∷ false ∷ true ∷ []
+unfolding badPaper formLengths
+sixteen-table = refl
+
+pub copies-table : map (λ n. badPaper n 84) (0 ∷ 1 ∷ 2 ∷ 254 ∷ 255 ∷ 256 ∷ 65537 ∷ [])
+    ≡ true ∷ false ∷ false ∷ false ∷ false ∷ true ∷ true ∷ []
+unfolding badPaper formLengths
+copies-table = refl
+
+-- The manual's sum: 24 pages of 3 1/2 inches are 7 feet; the same across the wrap of the identifier; 12 pages in 2 copies of 12 inches are 24 feet; a page
+-- of 6 inches is half a foot; no page is none.
+pub feet-table : map (λ t. paperUsed t .feet) (sent 0 24 1 84 ∷ sent 65530 18 1 84 ∷ sent 5 17 2 288 ∷ sent 65535 0 1 144 ∷ sent 9 9 255 288 ∷ [])
+    ≡ fin false 7 (pos 0) ∷ fin false 7 (pos 0) ∷ fin false 3 (pos 3) ∷ fin false 1 (negsuc 0) ∷ noFeet ∷ []
+unfolding paperUsed badPaper formLengths product round
+feet-table = refl

@@ -19,6 +19,7 @@ ghost use mathlib.Core.Bool.{true};
 ghost use mathlib.Core.List.{List, [], _∷_};
 ghost use Prim.Native.Nat.{ℕ};
 ghost use lib.ListN.{length};
+ghost use Rattle.paper.specs.Feet.{sent};
 ghost use Rattle.calls.specs.Core.{Stores, storesOf};
 ghost use Rattle.calls.specs.Commands.{issued};
 ghost use Rattle.calls.specs.Contents.{coreOk};
@@ -28,7 +29,7 @@ ghost use Rattle.calls.specs.Start.{asked, startOutcome};
 ghost use Rattle.printer.specs.Layout.{stateSize};
 ghost use Rattle.printer.specs.Premises.{Fit, Writes};
 ghost use Rattle.state.specs.State.{stateAt, coreAt, worldAt};
-ghost use Rattle.state.specs.Host.{called, left, shown, callBytes, startBytes};
+ghost use Rattle.state.specs.Host.{called, left, shown, callBytes, startBytes, told, feetTold};
 ghost use Rattle.serve.specs.Served.{Readable, Judged, Accepts, Asks, AsksLoad, AsksControl, Served};
 
 // Write, then space or skip.
@@ -339,4 +340,14 @@ pub fn start(
         return answer::unread();
     }
     answer::pack(begin(form, p0, p1, p2, p3, state, page, legends, tables))
+}
+
+// Feet of paper: no printer is asked.
+pub fn feet(initial: u16, last: u16, copies: u32, form: u32, feet: &mut f64) -> u64
+    ensures { λ r. ⌜ told r (now (feet .exit)) ≡ feetTold (sent initial last copies form) ⌝ }
+{
+    let paper = paper::used(initial, last, copies, form);
+    let refusal = paper.refusal;
+    *feet = paper.feet;
+    answer::number_only(refusal)
 }

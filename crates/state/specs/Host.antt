@@ -1,12 +1,14 @@
--- Document 01, "Calls": the calls as a C host makes them, over the state's bytes.
+-- Document 01, "Calls": the calls as a C host makes them, over the state's bytes; and T-04's, which has no state.
 use Prim.Native.Nat.{ℕ}
 use mathlib.Core.Bool.{cond}
 use mathlib.Core.List.{List, [], _∷_}
 use lib.Dec.{eqb}
 use lib.ListN.{length}
+use lib.Ieee.{Float}
 use Rattle.numbers.specs.declared.Answer.{Answer}
 use Rattle.numbers.specs.declared.Refusal.the-variants.{BadStore}
 use Rattle.numbers.specs.Numbers.{only}
+use Rattle.paper.specs.Feet.{Sent, paperUsed}
 use Rattle.calls.specs.Core.{Stores, World}
 use Rattle.calls.specs.Calls.{Call, Outcome, lent, step}
 use Rattle.calls.specs.Start.{Asked, startOutcome}
@@ -67,3 +69,14 @@ bytesAfter h (c ∷ cs) = bytesAfter (heldOf (callOn h c)) cs
 
 abbrev pub heldIn : World → Held
 heldIn w = held (bytesIn w) (w .core .stores)
+
+-- T-04: all that the call for feet of paper hands back and leaves: its packed answer, which tells its number alone, and the double that it was lent.
+pub record Told : Type 0 where
+  pub answer : ℕ
+  pub feet : Float
+
+abbrev pub told : ℕ → Float → Told
+told answer feet = record { answer = answer; feet = feet }
+
+unfoldable pub feetTold : Sent → Told
+feetTold t = let p = paperUsed t in told (packed (only (p .refusal) 0)) (p .feet)

@@ -51,9 +51,16 @@ pub fn pack(a: Answer) -> u64
     )
 }
 
+// An answer that tells its number alone.
+pub fn number_only(refusal: Refusal) -> u64
+    ensures { λ r. ⌜ r ≡ packed (only refusal 0) ⌝ }
+{
+    pack(Answer::only(refusal, 0))
+}
+
 // What bytes that stand for no printer get.
 pub fn unread() -> u64
     ensures { λ r. ⌜ r ≡ packed (only BadStore 0) ⌝ }
 {
-    pack(Answer::only(Refusal::BadStore, 0))
+    number_only(Refusal::BadStore)
 }

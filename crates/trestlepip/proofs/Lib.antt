@@ -8,3 +8,4 @@ pub mod Notes
 pub mod Demand3
 pub mod Counting
 pub mod Marks
+pub mod Feet

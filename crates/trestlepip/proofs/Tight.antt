@@ -3,18 +3,23 @@
 use Prim.Native.Nat.{ℕ}
 use mathlib.Core.Path.{_≡_, refl, sym, ap, _∙_}
 use mathlib.Core.List.{List, [], _∷_}
+use Rattle.paper.specs.Feet.{Sent}
 use Rattle.calls.specs.Core.{Stores}
 use Rattle.calls.specs.Calls.{Call}
 use Rattle.calls.specs.Start.{Asked}
-use Rattle.state.specs.Host.{Called, Held, callBytes, startBytes, heldOf, callOn, bytesAfter}
+use Rattle.state.specs.Host.{Called, Held, Told, callBytes, startBytes, feetTold, heldOf, callOn, bytesAfter}
 
--- Start's, and that of Command, Compose and Release.
+-- Start's, and that of every other call on a printer.
 module _ {x y : Called} where
   pub start-tight : (a : Asked) (s : List ℕ) (m : Stores) → x ≡ startBytes a s m → y ≡ startBytes a s m → x ≡ y
   start-tight a s m e h = e ∙ sym h
 
   pub call-tight : (s : List ℕ) (m : Stores) (c : Call) → x ≡ callBytes s m c → y ≡ callBytes s m c → x ≡ y
   call-tight s m c e h = e ∙ sym h
+
+-- T-04's.
+pub feet-tight : {x y : Told} (t : Sent) → x ≡ feetTold t → y ≡ feetTold t → x ≡ y
+feet-tight t e h = e ∙ sym h
 
 -- Calls one after the other, each lent what the one before it left, and each meeting its contract.
 pub data Ran : Held → List Call → Held → Type 0 where

@@ -1,14 +1,15 @@
 // The printer for a C host: the calls on numbers and lent bytes. None asks anything of its caller, and the contract of each is one equation that
-// fixes the packed answer and every lent byte.
+// fixes the packed answer and every lent byte, or the lent double.
 use counters::Tally;
 ghost use mathlib.Core.Path.{_≡_};
 ghost use mathlib.Core.List.{[], _∷_};
 ghost use Rattle.counters.specs.declared.Tally.the-variants.{Transferred, Fused, Stacked, Cancel, Restart};
+ghost use Rattle.paper.specs.Feet.{sent};
 ghost use Rattle.calls.specs.Core.{storesOf};
 ghost use Rattle.calls.specs.Commands.{issued};
 ghost use Rattle.calls.specs.Calls.{command, compose, release, tally};
 ghost use Rattle.calls.specs.Start.{asked};
-ghost use Rattle.state.specs.Host.{called, callBytes, startBytes};
+ghost use Rattle.state.specs.Host.{called, callBytes, startBytes, told, feetTold};
 
 #[no_mangle]
 pub extern "C" fn trestlepip_start(
@@ -153,4 +154,18 @@ pub extern "C" fn trestlepip_restart(
         called r [] (now (state .exit)) m ≡ callBytes (now (state .entry)) m (tally Restart)) ⌝ }
 {
     serve::tally(Tally::Restart, state, page, legends, tables)
+}
+
+// Feet of paper for a transmission. No store is lent.
+#[no_mangle]
+pub extern "C" fn trestlepip_feet(
+    initial: u16,
+    last: u16,
+    copies: u32,
+    form: u32,
+    feet: &mut f64,
+) -> u64
+    ensures { λ r. ⌜ told r (now (feet .exit)) ≡ feetTold (sent initial last copies form) ⌝ }
+{
+    serve::feet(initial, last, copies, form, feet)
 }
