@@ -253,7 +253,7 @@ build() { # NAME SOURCE...
 HOST='host/weights.c host/sheets.c host/spool.c host/show.c host/report.c host/text.c'
 MORNING="host/morning.c $HOST"
 REFUSALS="host/test_refusals.c $HOST"
-SECOND='tests/second/second.c tests/second/state.c tests/second/stations.c tests/second/form.c tests/second/line.c tests/second/copies.c'
+SECOND='tests/second/second.c tests/second/state.c tests/second/stations.c tests/second/form.c tests/second/line.c tests/second/copies.c tests/second/feet.c'
 GENERATOR='tests/second/calls.c tests/second/station_calls.c tests/second/chance.c tests/second/look.c tests/second/damage.c'
 RECORDS='tests/second/records.c tests/second/fcb_records.c tests/second/legend_records.c'
 COMPARISON='tests/second/compare.c tests/second/report.c tests/second/page_law.c tests/second/counts.c tests/second/counts_pages.c tests/second/counts_table.c tests/second/table.c'

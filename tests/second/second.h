@@ -9,5 +9,6 @@ command_call second_command;
 compose_call second_compose;
 release_call second_release;
 tally_call second_transferred, second_fused, second_stacked, second_cancel, second_restart;
+feet_call second_feet;
 
 #endif

@@ -48,3 +48,8 @@ TALLY_CALL(fused)
 TALLY_CALL(stacked)
 TALLY_CALL(cancel)
 TALLY_CALL(restart)
+
+uint64_t trestlepip_feet(uint16_t initial, uint16_t final, uint32_t copies, uint32_t form, double *feet)
+{
+    return second_feet(initial, final, copies, form, feet);
+}
