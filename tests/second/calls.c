@@ -5,7 +5,9 @@
 
 const size_t store_size[STORES] = { TRESTLEPIP_STATE_BYTES, TRESTLEPIP_PAGE_BYTES, TRESTLEPIP_LEGEND_BYTES, TRESTLEPIP_TABLE_BYTES };
 
-const char *const call_name[CALL_KINDS] = { "Start", "Command", "Compose", "Release", "Transferred", "Fused", "Stacked", "Cancel", "Restart" };
+const char *const call_name[CALL_KINDS] = {
+    "Start", "Feet", "Command", "Compose", "Release", "Transferred", "Fused", "Stacked", "Cancel", "Restart"
+};
 
 const unsigned forms[FORMS] = { 72, 84, 96, 132, 144, 168, 192, 204, 240, 264, 288 };
 
@@ -20,6 +22,11 @@ bool writes(const struct call *c)
 bool translates(const struct call *c)
 {
     return writes(c) || (c->kind == CALL_COMMAND && c->command == 0x35);
+}
+
+bool judges_stores(const struct call *c)
+{
+    return c->kind >= CALL_COMMAND;
 }
 
 /* ---- commands ---- */
@@ -312,12 +319,14 @@ void generator_next(struct generator *g, unsigned answered, struct call *c)
     tend_counters(g, c);
     if (start_due(g, answered))
         start(g, c);
+    else if (feet_due(g))
+        feet_call(g, c);
     else if (tally_due(g))
         tally_call(g, c);
     else if (state_of(g)[TRESTLEPIP_AT_WAITING] == 1)
         while_waiting(g, c);
     else
         while_printing(g, c);
-    if (c->kind != CALL_START && permille(g, g->permille_wrong_size))
+    if (judges_stores(c) && permille(g, g->permille_wrong_size))
         wrong_size(g, c);
 }

@@ -8,7 +8,9 @@
 #include <stddef.h>
 #include <stdint.h>
 
-enum { STORES = 4, FORMS = 11, RECORD_ROOM = 10240, REPLY_ROOM = 64, OUT_ROOM = TRESTLEPIP_PAGE_BYTES + 64, CHANGES_MOST = 3, CHANGE_MOST = 256 };
+enum { STORES = 4, FORMS = 11, RECORD_ROOM = 10240, REPLY_ROOM = 64, OUT_ROOM = TRESTLEPIP_PAGE_BYTES + 64, FEET_BYTES = sizeof(double) };
+
+enum { CHANGES_MOST = 3, CHANGE_MOST = 256 };
 
 /* The page counters, in the order of the state, and their bytes there. */
 enum { CHANNEL, TRANSFER, FUSER, STACKER, COUNTERS, COUNTER_BYTES = 2 * COUNTERS };
@@ -22,11 +24,12 @@ enum store { STATE, PAGE, LEGENDS, TABLES };
 /* The right size of each store. */
 extern const size_t store_size[STORES];
 
-/* The form lengths that Start takes. */
+/* The form lengths that Start and Feet take. */
 extern const unsigned forms[FORMS];
 
+/* Those from Command on judge what their stores hold, and those from Transferred on count pages. */
 enum call_kind {
-    CALL_START, CALL_COMMAND, CALL_COMPOSE, CALL_RELEASE, CALL_TRANSFERRED, CALL_FUSED, CALL_STACKED, CALL_CANCEL, CALL_RESTART, CALL_KINDS
+    CALL_START, CALL_FEET, CALL_COMMAND, CALL_COMPOSE, CALL_RELEASE, CALL_TRANSFERRED, CALL_FUSED, CALL_STACKED, CALL_CANCEL, CALL_RESTART, CALL_KINDS
 };
 
 /* The calls' names, for print. */
@@ -41,7 +44,8 @@ struct change {
 };
 
 /* One call with all its numbers and lengths; `buffer_len` is that of the reply or the output. A store of wrong size begins where the right one
- * does, so that its contents are good, or else ends where it does. Counters that are to be set before the call are such as calls lead to. */
+ * does, so that its contents are good, or else ends where it does. Counters that are to be set before the call are such as calls lead to. Feet has
+ * the form length and the last three numbers, and is lent no store. */
 struct call {
     enum call_kind kind;
     uint32_t form;
@@ -59,6 +63,8 @@ struct call {
     bool damaged[STORES];
     bool sets_counters;
     uint8_t counters[COUNTER_BYTES];
+    uint16_t initial, final;
+    uint32_t copies;
 };
 
 /* Whether the call is a write, if its byte is listed. */
@@ -69,6 +75,12 @@ bool translates(const struct call *c);
 
 /* Whether the call is one of the five that change the page counters alone. */
 bool is_tally(const struct call *c);
+
+/* Whether the call judges what its stores hold: Start does not look, and Feet is lent none. */
+bool judges_stores(const struct call *c);
+
+/* The pages that Feet is asked about. */
+uint16_t pages_of_feet(const struct call *c);
 
 /* What the generator keeps from call to call. A calm one makes no Start except the first, and damages nothing. None sets counters unless it is told
  * how often. */

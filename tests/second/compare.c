@@ -7,7 +7,7 @@
 
 enum { AFTER_SENSE = TRESTLEPIP_AT_SENSE_23 + 1 };
 
-const char *const part_name[PARTS] = { "state", "page", "legends", "tables", "record", "reply", "output" };
+const char *const part_name[PARTS] = { "state", "page", "legends", "tables", "record", "reply", "output", "feet" };
 
 /* The first byte in which two stretches differ; they do. */
 size_t first_difference(const uint8_t *a, const uint8_t *b)
@@ -37,20 +37,26 @@ static bool canary_written(const struct lent *l, unsigned part, struct differenc
         || (!l->guarded && differs("canary after", part, l->end, canaries, CANARY_BYTES, d));
 }
 
-/* Whether a call of this kind is lent this buffer. */
-static bool is_lent(const struct call *c, unsigned part)
+/* Whether a buffer is looked at after a call of this kind: if the call was lent it, and a store always. */
+static bool is_looked_at(const struct call *c, unsigned part)
 {
-    if (part == RECORD || part == REPLY)
-        return c->kind == CALL_COMMAND;
-    return part != OUT || c->kind == CALL_COMPOSE;
+    switch (part) {
+    case RECORD: case REPLY: return c->kind == CALL_COMMAND;
+    case OUT: return c->kind == CALL_COMPOSE;
+    case FEET: return c->kind == CALL_FEET;
+    default: return true;
+    }
 }
 
 /* How much of a buffer's room the call is lent; a store of wrong size is compared as one of the right size. */
 static size_t lent_length(const struct call *c, unsigned part)
 {
-    if (part == RECORD)
-        return c->record_len;
-    return part < STORES ? store_size[part] : c->buffer_len;
+    switch (part) {
+    case RECORD: return c->record_len;
+    case REPLY: case OUT: return c->buffer_len;
+    case FEET: return FEET_BYTES;
+    default: return store_size[part];
+    }
 }
 
 /* One buffer of both programs: what was lent, the room before it, and the canaries. */
@@ -62,11 +68,11 @@ static bool buffer_differs(const struct run *r, unsigned part, struct difference
         || differs("room before", part, a->end - a->room, b->end - b->room, a->room - length, d) || canary_written(a, part, d);
 }
 
-/* All buffers that the call was lent. */
+/* All stores, and the buffers that the call was lent. */
 bool buffers_differ(const struct run *r, struct difference *d)
 {
     for (unsigned i = 0; i < PARTS; i++)
-        if (is_lent(&r->call, i) && buffer_differs(r, i, d))
+        if (is_looked_at(&r->call, i) && buffer_differs(r, i, d))
             return true;
     return false;
 }
@@ -100,6 +106,17 @@ bool refusal_changes(const struct run *r, struct difference *d)
         if (differs("refused, but changed:", i, store(r->library, i), r->before[i], store_size[i], d))
             return true;
     return r->call.kind == CALL_START ? refused_start_state(r, d) : refusal_changes_state(r, number, d);
+}
+
+/* T-04: Feet is lent no store. */
+bool feet_change_store(const struct run *r, struct difference *d)
+{
+    if (r->call.kind != CALL_FEET)
+        return false;
+    for (enum store i = STATE; i <= TABLES; i++)
+        if (differs("Feet changed:", i, store(r->library, i), r->before[i], store_size[i], d))
+            return true;
+    return false;
 }
 
 /* T-01: whether a record has room for so many positions, from the first of them on; the fill after a write's record is no room. */
@@ -212,7 +229,7 @@ static const char *accepted_fault(const struct run *r)
 /* T-03: whether damage has put a mark above 1 before a call that must refuse it. A page without damage is not searched: that would take long. */
 static bool has_to_get_9(const struct run *r)
 {
-    if (r->call.kind == CALL_START || !r->call.damaged[PAGE])
+    if (!judges_stores(&r->call) || !r->call.damaged[PAGE])
         return false;
     for (size_t i = 0; i < store_size[PAGE] / TRESTLEPIP_CELL_BYTES; i++)
         if (trestlepip_mark_at(r->before[PAGE], i) > 1)

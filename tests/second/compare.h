@@ -18,11 +18,14 @@ extern const char *const part_name[PARTS];
 /* The first byte in which two stretches differ; they do. */
 size_t first_difference(const uint8_t *a, const uint8_t *b);
 
-/* Whether a buffer that the call was lent differs from the second program's, or a canary was written; tells where. */
+/* Whether a store or a buffer that the call was lent differs from the second program's, or a canary was written; tells where. */
 bool buffers_differ(const struct run *r, struct difference *d);
 
 /* Whether a refused call changed what it must not, whatever the second program did; tells where. */
 bool refusal_changes(const struct run *r, struct difference *d);
+
+/* Whether a call for feet of paper changed a store, whatever the second program did; tells where. */
+bool feet_change_store(const struct run *r, struct difference *d);
 
 /* What is wrong in what the library's answer tells of unprintable positions, whatever the second program did; null if nothing is. */
 const char *telling_fault(const struct run *r);

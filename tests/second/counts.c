@@ -286,7 +286,7 @@ void counts_add(struct counts *n, const struct call *c, uint64_t answer, uint8_t
         add_copy(n, answer, after);
     if (c->kind == CALL_START)
         add_start(n, c, answer);
-    else if (is_sized(c))
+    if (judges_stores(c) && is_sized(c))
         add_damage(n, c, answer);
     page_counts_add(&n->pages, c, trestlepip_number(answer), before, after[STATE]);
     mark_counts_add(&n->marks, c, trestlepip_number(answer), before, out);

@@ -5,7 +5,7 @@
 #include "calls.h"
 #include "table.h"
 
-enum { NUMBERS = 14, CAUSES = 11, TALLIES = 5 };
+enum { NUMBERS = TRESTLEPIP_BAD_PAPER + 1, CAUSES = 11, TALLIES = 5 };
 
 /* What a list has met; it is disturbed by a Start after its first call, by a byte that the driver sets, and by a store of wrong size. */
 struct list_counts {
@@ -72,6 +72,9 @@ struct counts {
 /* Adds one call: its answer, the stores before and after it, and the output, which is read after an accepted Compose. */
 void counts_add(struct counts *n, const struct call *c, uint64_t answer, uint8_t *const before[STORES], const uint8_t *const after[STORES],
         const uint8_t *out);
+
+/* Whether a call can get this number: 11 cannot occur, and nothing gives 14 and 15. */
+bool number_occurs(unsigned number);
 
 /* Whether a call's stores all have their sizes. */
 bool is_sized(const struct call *c);

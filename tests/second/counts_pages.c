@@ -235,6 +235,6 @@ void mark_counts_add(struct mark_counts *n, const struct call *c, unsigned numbe
         add_marked_copy(n, before, out);
     if (number == TRESTLEPIP_BAD_STORE && is_sized(c))
         add_bad_page(n, c, before);
-    if (number != TRESTLEPIP_BAD_STORE && c->kind != CALL_START && c->damaged[PAGE])
+    if (number != TRESTLEPIP_BAD_STORE && judges_stores(c) && c->damaged[PAGE])
         add_lent(n, c, before[PAGE]);
 }

@@ -5,17 +5,23 @@
 
 #include <stdio.h>
 
-/* Every number has to be met, except 11, which cannot occur. */
+bool number_occurs(unsigned number)
+{
+    return number != TRESTLEPIP_TWO_PAGES && number != 14 && number != 15;
+}
+
+/* Every number that occurs has to be met. */
 static void number_rows(struct table *t, const struct counts *n)
 {
     static const char *const names[NUMBERS] = {
         "number 0: accepted", "number 1: byte not listed", "number 2: write or load record", "number 3: load check",
         "number 4: page waiting", "number 5: load on a started page", "number 6: no page waiting", "number 7: copy index",
         "number 8: output or reply too short", "number 9: store of wrong size or contents", "number 10: form or pitch not listed",
-        "number 11: two pages completed", "number 12: no page between a station and the one before it", "number 13: 32,767 pages released and not stacked"
+        "number 11: two pages completed", "number 12: no page between a station and the one before it",
+        "number 13: 32,767 pages released and not stacked", "number 14: no call gives it", "number 15: no call gives it", "number 16: form length or copies of Feet"
     };
     for (unsigned i = 0; i < NUMBERS; i++)
-        table_add(t, names[i], n->number[i], i == TRESTLEPIP_TWO_PAGES ? NEVER : 1);
+        table_add(t, names[i], n->number[i], number_occurs(i) ? 1 : NEVER);
 }
 
 /* Causes 1 to 10 of a load check. */

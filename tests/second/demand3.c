@@ -21,7 +21,7 @@ struct met {
     unsigned long start_alone, at_once, deferred, each_way, switch_on, switch_off;
     unsigned long unlike[STORES], counters_unlike[WAYS], counters_zero[WAYS];
     unsigned long past_calls, deeds[CALL_KINDS], resets;
-    unsigned long refused[NUMBERS], no_op, sense, compose;
+    unsigned long refused[NUMBERS], no_op, sense, compose, feet;
     unsigned long pages, pages_with_legends, pages_with_marks, copies;
 };
 
@@ -209,11 +209,12 @@ static void reset_pair(struct demand_3 *d)
 
 /* ---- deeds ---- */
 
-/* Demand 3 speaks of accepted commands, releases, and station, cancel and restart calls; it leaves out No-Op, Sense, Compose and what is refused. */
+/* Demand 3 speaks of accepted commands, releases, and station, cancel and restart calls; it leaves out No-Op, Sense, Compose, Feet
+ * and what is refused. */
 static bool is_deed(const struct call *c, uint64_t answer)
 {
     bool no_op_or_sense = c->kind == CALL_COMMAND && (c->command == TRESTLEPIP_NO_OP || c->command == TRESTLEPIP_SENSE);
-    return trestlepip_number(answer) == 0 && c->kind != CALL_COMPOSE && !no_op_or_sense;
+    return trestlepip_number(answer) == 0 && c->kind != CALL_COMPOSE && c->kind != CALL_FEET && !no_op_or_sense;
 }
 
 static void count_left_out(struct met *m, const struct call *c, uint64_t answer)
@@ -221,6 +222,7 @@ static void count_left_out(struct met *m, const struct call *c, uint64_t answer)
     bool taken = trestlepip_number(answer) == 0;
     m->refused[trestlepip_number(answer) % NUMBERS] += !taken;
     m->compose += taken && c->kind == CALL_COMPOSE;
+    m->feet += taken && c->kind == CALL_FEET;
     m->no_op += taken && c->kind == CALL_COMMAND && c->command == TRESTLEPIP_NO_OP;
     m->sense += taken && c->kind == CALL_COMMAND && c->command == TRESTLEPIP_SENSE;
 }
@@ -332,12 +334,12 @@ static bool pair_agrees(struct demand_3 *d)
     return stores_agree(&d->pair) && left_out_agrees(d) && deeds_agree(d);
 }
 
-/* Every number that a call other than Start can get; 10 is Start's, and 11 cannot occur. */
+/* Every number that a call other than Start can get; 10 is Start's. */
 static void refused_rows(struct table *t, const struct met *m)
 {
     char name[NAME_ROOM];
     for (unsigned i = TRESTLEPIP_NOT_LISTED; i < NUMBERS; i++) {
-        bool possible = i != TRESTLEPIP_BAD_FORM && i != TRESTLEPIP_TWO_PAGES;
+        bool possible = i != TRESTLEPIP_BAD_FORM && number_occurs(i);
         snprintf(name, sizeof name, "left out: refused with number %u", i);
         table_add(t, name, m->refused[i], possible ? 1 : NEVER);
     }
@@ -376,7 +378,7 @@ static struct faults print_met(const struct met *m)
     deed_rows(&t, m);
     refused_rows(&t, m);
     TABLE_ADD_ROWS(&t, { "left out: No-Op", m->no_op, 1 }, { "left out: Sense", m->sense, 1 }, { "left out: Compose", m->compose, 1 },
-            { "page compared", m->pages, 1 }, { "page with legends compared", m->pages_with_legends, 1 },
+            { "left out: Feet", m->feet, 1 }, { "page compared", m->pages, 1 }, { "page with legends compared", m->pages_with_legends, 1 },
             { "page with marks compared", m->pages_with_marks, 1 }, { "copy compared", m->copies, 1 });
     return table_print(&t);
 }

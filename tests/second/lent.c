@@ -46,7 +46,8 @@ static struct lent lent_make(size_t room, bool guarded)
 
 struct set set_make(bool guarded)
 {
-    const size_t room[PARTS] = { store_size[STATE], store_size[PAGE], store_size[LEGENDS], store_size[TABLES], RECORD_ROOM, REPLY_ROOM, OUT_ROOM };
+    const size_t room[PARTS] = { store_size[STATE], store_size[PAGE], store_size[LEGENDS], store_size[TABLES], RECORD_ROOM, REPLY_ROOM, OUT_ROOM,
+        FEET_BYTES };
     struct set s;
     for (unsigned i = 0; i < PARTS; i++)
         s.part[i] = lent_make(room[i], guarded);

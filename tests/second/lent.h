@@ -7,7 +7,7 @@
 enum { CANARY_BYTES = 64, CANARY = 0xC9 };
 
 /* The lent buffers are the stores, then these. */
-enum { RECORD = STORES, REPLY, OUT, PARTS };
+enum { RECORD = STORES, REPLY, OUT, FEET, PARTS };
 
 /* A buffer that ends at `end`, before canary bytes or an inaccessible page, and begins after canary bytes. */
 struct lent {

@@ -1,5 +1,5 @@
 /* What the parts of the generator share: chance.c has its random numbers, look.c looks at the state, records.c, fcb_records.c and
- * legend_records.c make records, station_calls.c makes calls that count pages, and counters, damage.c damages stores. */
+ * legend_records.c make records, station_calls.c makes calls that count pages, and counters, feet_calls.c those for feet, damage.c damages stores. */
 #ifndef MAKING_H
 #define MAKING_H
 
@@ -106,6 +106,10 @@ void legends_record(struct generator *g, struct call *c);
 /* Whether it is time for a station, cancel or restart call, and such a call. */
 bool tally_due(struct generator *g);
 void tally_call(struct generator *g, struct call *c);
+
+/* Whether it is time for a call for feet of paper, and such a call. */
+bool feet_due(struct generator *g);
+void feet_call(struct generator *g, struct call *c);
 
 /* Counters that no calls can lead to, by one page. */
 void unreachable_counters(struct generator *g, uint8_t bytes[COUNTER_BYTES]);

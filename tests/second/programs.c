@@ -11,13 +11,15 @@
 
 static const struct exports library = EXPORTS(trestlepip), second = EXPORTS(second);
 
-/* The record and the old bytes of reply and output, which differ from call to call so that a write left out is seen. */
+/* The record and the old bytes of reply, output and feet, which differ from call to call so that a write left out is seen. The old feet are a
+ * negative double, which no call leaves. */
 void lay_out(const struct set *s, const struct call *c, unsigned old)
 {
     memcpy(last_bytes(s, RECORD, c->record_len), c->record, c->record_len);
     memset(last_bytes(s, REPLY, REPLY_ROOM), (int)(old & 0xFF), REPLY_ROOM);
     if (c->kind == CALL_COMPOSE)
         memset(last_bytes(s, OUT, OUT_ROOM), (int)(old & 0xFF), OUT_ROOM);
+    memset(last_bytes(s, FEET, FEET_BYTES), (int)(0x80 | (old & 0xFF)), FEET_BYTES);
 }
 
 /* What a call is handed: null for some empty buffers; a store of wrong size from the begin of the right one, or up to its end. */
@@ -32,10 +34,17 @@ static uint8_t *handed(const struct set *s, unsigned part, size_t length, const 
 #define HANDED_STORES HANDED(STATE, c->store_len[STATE]), HANDED(PAGE, c->store_len[PAGE]), \
     HANDED(LEGENDS, c->store_len[LEGENDS]), HANDED(TABLES, c->store_len[TABLES])
 
+/* The double that Feet is handed: what ends at the end of its buffer is aligned for one. */
+static double *handed_feet(const struct set *s)
+{
+    return (double *)(void *)last_bytes(s, FEET, FEET_BYTES);
+}
+
 static uint64_t make_call(const struct exports *p, const struct set *s, const struct call *c)
 {
     switch (c->kind) {
     case CALL_START: return p->start(c->form, c->pitch[0], c->pitch[1], c->pitch[2], c->pitch[3], HANDED_STORES);
+    case CALL_FEET: return p->feet(c->initial, c->final, c->copies, c->form, handed_feet(s));
     case CALL_COMMAND: return p->command(c->command, HANDED(RECORD, c->record_len), HANDED(REPLY, c->buffer_len), HANDED_STORES);
     case CALL_COMPOSE: return p->compose(c->copy, HANDED(OUT, c->buffer_len), HANDED_STORES);
     case CALL_RELEASE: return p->release(HANDED_STORES);

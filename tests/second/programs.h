@@ -5,7 +5,7 @@
 #include "calls.h"
 #include "lent.h"
 
-/* Lays out the record of the next call, and old bytes for its reply and output. */
+/* Lays out the record of the next call, and old bytes for its reply, output and feet. */
 void lay_out(const struct set *s, const struct call *c, unsigned old);
 
 /* From now on a fault in the library comes back to the driver. */

@@ -26,6 +26,8 @@ static void print_name(const struct call *c)
     printf("%s", call_name[c->kind]);
     if (c->kind == CALL_START)
         printf(": form %u, pitches %u %u %u %u", c->form, c->pitch[0], c->pitch[1], c->pitch[2], c->pitch[3]);
+    else if (c->kind == CALL_FEET)
+        printf(": initial %04X, final %04X, copies %u, form %u", c->initial, c->final, c->copies, c->form);
     else if (c->kind == CALL_COMMAND)
         printf(": %02X", c->command);
     else if (c->kind == CALL_COMPOSE)
@@ -36,7 +38,8 @@ static void print_name(const struct call *c)
 void print_call(const struct call *c, const uint8_t *state)
 {
     print_name(c);
-    print_lengths(c);
+    if (c->kind != CALL_FEET)
+        print_lengths(c);
     if (c->kind == CALL_COMMAND)
         print_bytes("record", c->record, c->record_len);
     print_bytes("state before", state, store_size[STATE]);

@@ -5,6 +5,7 @@
 
 #include "../../include/trestlepip.h"
 #include "compare.h"
+#include "feet_law.h"
 #include "making.h"
 #include "programs.h"
 #include "report.h"
@@ -98,7 +99,7 @@ static void remember_page(struct run *r)
 /* The stores as they are now become those before the next call. */
 static void remember(struct run *r)
 {
-    bool stores_kept = trestlepip_number(r->second_answer) != 0 || r->call.kind == CALL_COMPOSE || is_tally(&r->call);
+    bool stores_kept = trestlepip_number(r->second_answer) != 0 || r->call.kind == CALL_COMPOSE || r->call.kind == CALL_FEET || is_tally(&r->call);
     if (!stores_kept) {
         remember_page(r);
         remember_part(r, LEGENDS, 0, store_size[LEGENDS]);
@@ -125,26 +126,43 @@ static void show_progress(const struct run *r)
     fprintf(stderr, "%llu of %llu calls\r", r->calls_made, r->options.calls);
 }
 
+/* What is wrong in what the library did, whatever the second program did; null for each that is as it must be. */
+struct own_faults {
+    const char *telling, *page, *counting, *feet;
+};
+
+static struct own_faults find_own_faults(const struct run *r)
+{
+    const uint8_t *state = store(r->library, STATE), *feet = last_bytes(r->library, FEET, FEET_BYTES);
+    return (struct own_faults){ .telling = telling_fault(r), .page = page_fault(r),
+            .counting = counting_fault(&r->law, &r->call, r->library_answer, r->before[STATE], state),
+            .feet = feet_fault(&r->call, r->library_answer, feet) };
+}
+
+/* One such fault, if there is. */
+static void print_own_fault(const char *what, const char *fault)
+{
+    if (fault != NULL)
+        printf("the library's %s: %s\n", what, fault);
+}
+
 /* Compares all that the call left; prints the first difference. */
 static bool agree(const struct run *r)
 {
     struct difference d;
     bool same_answer = r->library_answer == r->second_answer;
-    bool buffers = buffers_differ(r, &d) || refusal_changes(r, &d);
-    const char *fault = telling_fault(r), *misprint = page_fault(r);
-    const char *miscount = counting_fault(&r->law, &r->call, r->library_answer, r->before[STATE], store(r->library, STATE));
-    if (same_answer && !buffers && fault == NULL && misprint == NULL && miscount == NULL)
+    bool buffers = buffers_differ(r, &d) || refusal_changes(r, &d) || feet_change_store(r, &d);
+    struct own_faults own = find_own_faults(r);
+    if (same_answer && !buffers && own.telling == NULL && own.page == NULL && own.counting == NULL && own.feet == NULL)
         return true;
     print_place(r);
     print_answers("library", r->library_answer, "second", r->second_answer);
     if (buffers)
         print_difference(&d);
-    if (fault != NULL)
-        printf("the library's answer by itself: %s\n", fault);
-    if (misprint != NULL)
-        printf("the library's page or copy by itself: %s\n", misprint);
-    if (miscount != NULL)
-        printf("the library's counters by themselves: %s\n", miscount);
+    print_own_fault("answer by itself", own.telling);
+    print_own_fault("page or copy by itself", own.page);
+    print_own_fault("counters by themselves", own.counting);
+    print_own_fault("feet by themselves", own.feet);
     return false;
 }
 
