@@ -3,6 +3,7 @@
 #define COUNTS_H
 
 #include "calls.h"
+#include "feet_law.h"
 #include "table.h"
 
 enum { NUMBERS = TRESTLEPIP_BAD_PAPER + 1, CAUSES = 11, TALLIES = 5 };
@@ -46,6 +47,14 @@ struct mark_counts {
     unsigned long lent[2][OLD_CLASSES];
 };
 
+/* Calls for feet of paper: refused for the form length, for the copies or for both; accepted by the pages from one identifier to the other, by
+ * the length of the paper, and, unless there is none, by how the fraction was rounded. */
+struct feet_counts {
+    unsigned long bad_form, no_copies, many_copies, bad_both;
+    unsigned long told, no_pages, over_wrap, most_pages, above_32_bits, longest;
+    unsigned long rounded[ROUNDINGS];
+};
+
 struct counts {
     unsigned long number[NUMBERS];
     unsigned long cause[CAUSES];
@@ -66,6 +75,7 @@ struct counts {
     unsigned long run_so_far, runs, runs_short;
     struct page_counts pages;
     struct mark_counts marks;
+    struct feet_counts feet;
     struct list_counts list, undisturbed;
 };
 
@@ -92,6 +102,9 @@ void mark_counts_add(struct mark_counts *n, const struct call *c, unsigned numbe
 
 /* Adds what one call did with the page counters: its number, the stores before it, and the state after it. */
 void page_counts_add(struct page_counts *n, const struct call *c, unsigned number, uint8_t *const before[STORES], const uint8_t *after);
+
+/* Adds a call for feet of paper: its number, and the double's bytes after it. */
+void feet_counts_add(struct feet_counts *n, const struct call *c, unsigned number, const uint8_t *feet);
 
 /* Adds the list whose last call was added: only now is it known whether it was disturbed. */
 void counts_end_list(struct counts *n);

@@ -18,7 +18,8 @@ static void number_rows(struct table *t, const struct counts *n)
         "number 4: page waiting", "number 5: load on a started page", "number 6: no page waiting", "number 7: copy index",
         "number 8: output or reply too short", "number 9: store of wrong size or contents", "number 10: form or pitch not listed",
         "number 11: two pages completed", "number 12: no page between a station and the one before it",
-        "number 13: 32,767 pages released and not stacked", "number 14: no call gives it", "number 15: no call gives it", "number 16: form length or copies of Feet"
+        "number 13: 32,767 pages released and not stacked", "number 14: no call gives it", "number 15: no call gives it",
+        "number 16: form length or copies of Feet"
     };
     for (unsigned i = 0; i < NUMBERS; i++)
         table_add(t, names[i], n->number[i], number_occurs(i) ? 1 : NEVER);
@@ -165,7 +166,7 @@ static void counter_rows(struct table *t, const struct page_counts *n)
             { "number 9 for the counters alone: stacker a page past the fuser", n->stacker_ahead, 20 });
 }
 
-/* Every call except Start judges the counters. */
+/* Every call that is lent the stores, except Start, judges the counters. */
 static void unreachable_rows(struct table *t, const struct page_counts *n)
 {
     char name[NAME_ROOM];
@@ -210,7 +211,7 @@ static void mark_rows(struct table *t, const struct mark_counts *n)
             { "mark 1 set by the driver on a character, taken", n->lent[1][IS_CHARACTER], 20 });
 }
 
-/* Every call except Start judges all marks. */
+/* Every call that is lent the stores, except Start, judges all marks. */
 static void bad_mark_rows(struct table *t, const struct mark_counts *n)
 {
     char name[NAME_ROOM];
@@ -224,6 +225,21 @@ static void bad_mark_rows(struct table *t, const struct mark_counts *n)
             { "number 9 for one mark alone: the page's last", n->bad_last_cell, 20 },
             { "number 9 for one mark alone: 02", n->bad_02, 20 }, { "number 9 for one mark alone: 80", n->bad_80, 20 },
             { "number 9 for one mark alone: FF", n->bad_ff, 20 }, { "number 9 for one mark alone: another", n->bad_other, 20 });
+}
+
+/* Calls for feet of paper. */
+static void feet_rows(struct table *t, const struct feet_counts *n)
+{
+    TABLE_ADD_ROWS(t, { "feet told", n->told, 200 }, { "feet refused with 16 for the form length alone", n->bad_form, 20 },
+            { "feet refused with 16 for copies 0 alone", n->no_copies, 20 },
+            { "feet refused with 16 for copies above 255 alone", n->many_copies, 20 },
+            { "feet refused with 16 for form length and copies", n->bad_both, 20 },
+            { "feet told, the identifiers equal", n->no_pages, 20 },
+            { "feet told, the identifier gone on from FFFF to 0000", n->over_wrap, 20 },
+            { "feet of 65,535 pages told", n->most_pages, 20 },
+            { "feet told of a product above 32 bits", n->above_32_bits, 20 }, { "feet told of the largest product", n->longest, 5 },
+            { "feet told that are the exact fraction, not 0", n->rounded[EXACT], 20 },
+            { "feet told that are rounded up", n->rounded[ROUNDED_UP], 20 }, { "feet told that are rounded down", n->rounded[ROUNDED_DOWN], 20 });
 }
 
 /* Refused Starts and damage. */
@@ -263,6 +279,7 @@ struct faults counts_print(const struct counts *n)
     merge_rows(&t, &n->marks);
     mark_rows(&t, &n->marks);
     bad_mark_rows(&t, &n->marks);
+    feet_rows(&t, &n->feet);
     damage_rows(&t, n);
     list_rows(&t, n);
     return table_print(&t);

@@ -113,6 +113,8 @@ static void count_call(struct run *r)
     const struct set *s = &r->second;
     const uint8_t *const after[STORES] = { store(s, STATE), store(s, PAGE), store(s, LEGENDS), store(s, TABLES) };
     counts_add(&r->counts, &r->call, r->second_answer, r->before, after, last_bytes(s, OUT, r->call.buffer_len));
+    if (r->call.kind == CALL_FEET)
+        feet_counts_add(&r->counts.feet, &r->call, trestlepip_number(r->second_answer), last_bytes(s, FEET, FEET_BYTES));
     r->calls_made++;
 }
 
