@@ -27,12 +27,13 @@ static const struct {
     [BUFFER] = { "buffer", TRESTLEPIP_PAGE_BYTES, 0xFF },
 };
 
-/* A program, what its next call is lent, and the stores as they were before the latest call. */
+/* A program, what its next call is lent, the feet among it, and the stores as they were before the latest call. */
 struct player {
     const char *name;
     struct exports exports;
     uint8_t *lent[LENT];
     size_t lent_len[LENT];
+    double feet;
     uint8_t *before[STORES];
     unsigned long calls;
 };
@@ -106,6 +107,7 @@ static bool is_meant(char letter, size_t count)
     switch (letter) {
     case 'S': return count == 6;
     case 'C': return count == 2;
+    case 'F': return count == 12;
     case 'R': case 'T': case 'U': case 'K': case 'X': case 'N': return count == 0;
     case 'P': return count == 2;
     case 'G': case 'M': return count == 3;
@@ -229,12 +231,30 @@ static void tell_buffer(FILE *to, const struct player *p, const struct line *l, 
         fprintf(to, " reply %02X %02X %02X %02X .. %02X %02X", b[0], b[1], b[2], b[3], b[22], b[23]);
 }
 
+/* The eight bytes of the feet, high byte first; of Feet alone. */
+static void tell_feet(FILE *to, const struct player *p, const struct line *l)
+{
+    uint64_t bits;
+    if (l->letter != 'F')
+        return;
+    memcpy(&bits, &p->feet, sizeof bits);
+    fprintf(to, " feet");
+    for (unsigned shift = 64; shift != 0; shift -= 8)
+        fprintf(to, " %02X", (unsigned)(bits >> (shift - 8) & 0xFF));
+}
+
 /* ---- a line is obeyed ---- */
 
 /* A number of two bytes, high byte first. */
-static uint32_t double_of(const uint8_t *bytes)
+static uint16_t two_bytes(const uint8_t *bytes)
 {
-    return bytes[0] * 256u + bytes[1];
+    return (uint16_t)(bytes[0] * 256u + bytes[1]);
+}
+
+/* The same of four. */
+static uint32_t four_bytes(const uint8_t *bytes)
+{
+    return two_bytes(bytes) * UINT32_C(0x10000) + two_bytes(bytes + 2);
 }
 
 #define PART(i) p->lent[i], p->lent_len[i]
@@ -245,8 +265,9 @@ static uint64_t make_call(struct player *p, const struct line *l)
     const uint8_t *g = l->given;
     p->calls++;
     switch (l->letter) {
-    case 'S': return p->exports.start(double_of(g), g[2], g[3], g[4], g[5], PART_STORES);
-    case 'C': return p->exports.compose(double_of(g), PART(BUFFER), PART_STORES);
+    case 'S': return p->exports.start(two_bytes(g), g[2], g[3], g[4], g[5], PART_STORES);
+    case 'F': return p->exports.feet(two_bytes(g), two_bytes(g + 2), four_bytes(g + 4), four_bytes(g + 8), &p->feet);
+    case 'C': return p->exports.compose(two_bytes(g), PART(BUFFER), PART_STORES);
     case 'R': return p->exports.release(PART_STORES);
     case 'T': return p->exports.transferred(PART_STORES);
     case 'U': return p->exports.fused(PART_STORES);
@@ -263,16 +284,19 @@ static void lend_usual(struct player *p)
         p->lent_len[i] = parts[i].size;
 }
 
+/* Feet is lent 1.0, which a refusal must not leave. */
 static void obey_call(struct player *p, const struct line *l, FILE *to)
 {
     for (enum store i = STATE; i <= TABLES; i++)
         memcpy(p->before[i], p->lent[i], parts[i].size + 1);
     memset(p->lent[BUFFER], parts[BUFFER].filler, parts[BUFFER].size + 1);
+    p->feet = 1.0;
     uint64_t answer = make_call(p, l);
     tell_answer(to, answer);
     tell_state(to, p->lent[STATE], p->lent[PAGE]);
     tell_stores(to, p);
     tell_buffer(to, p, l, answer);
+    tell_feet(to, p, l);
     lend_usual(p);
 }
 
@@ -297,7 +321,7 @@ static bool resize_stores(struct player *p, const uint8_t *sizes)
 {
     bool room = true;
     for (enum store i = STATE; i <= TABLES; i++) {
-        size_t size = double_of(sizes + 2 * i);
+        size_t size = two_bytes(sizes + 2 * i);
         room = resize(p, i, size != 0 ? size : parts[i].size) && room;
     }
     return room;
@@ -313,10 +337,10 @@ static bool obey_line(struct player *p, const char *text, size_t length, FILE *t
     switch (l.letter) {
     case COMMENT: return true;
     case 'P': return put(p, STATE, l.given[0], l.given[1]);
-    case 'G': return put(p, LEGENDS, double_of(l.given), l.given[2]);
-    case 'M': return put(p, PAGE, double_of(l.given), l.given[2]);
+    case 'G': return put(p, LEGENDS, two_bytes(l.given), l.given[2]);
+    case 'M': return put(p, PAGE, two_bytes(l.given), l.given[2]);
     case 'L': return resize_stores(p, l.given);
-    case 'B': return resize(p, BUFFER, double_of(l.given));
+    case 'B': return resize(p, BUFFER, two_bytes(l.given));
     default: obey_call(p, &l, to); return true;
     }
 }
