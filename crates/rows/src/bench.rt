@@ -8,6 +8,7 @@ use script::stores::State;
 use script::stores::Tables;
 use script::stores::double;
 use script::stores::part;
+use script::stores::quadruple;
 use script::words;
 use script::words::Given;
 ghost use Prim.Native.Nat.{_<_};
@@ -49,10 +50,21 @@ fn start(
     )
 }
 
+fn feet(given: &Given, feet: &mut f64) -> u64 {
+    trestlepip::trestlepip_feet(
+        double(given, 0) as u16,
+        double(given, 2) as u16,
+        quadruple(given, 4),
+        quadruple(given, 8),
+        feet,
+    )
+}
+
 fn make(
     letter: u8,
     given: &Given,
     n: usize,
+    paper: &mut f64,
     buffer: &mut [u8],
     state: &mut [u8],
     page: &mut [u8],
@@ -75,6 +87,7 @@ fn make(
         b'K' => trestlepip::trestlepip_stacked(state, page, legends, tables),
         b'X' => trestlepip::trestlepip_cancel(state, page, legends, tables),
         b'N' => trestlepip::trestlepip_restart(state, page, legends, tables),
+        b'F' => feet(given, paper),
         _ => trestlepip::trestlepip_command(
             given[0],
             record_of(given, n),
@@ -93,6 +106,7 @@ fn lend(
     given: &Given,
     n: usize,
     lent: &Lent,
+    paper: &mut f64,
     buffer: &mut [u8],
     state: &mut [u8],
     page: &mut [u8],
@@ -103,6 +117,7 @@ fn lend(
         letter,
         given,
         n,
+        paper,
         part(buffer, lent, 4),
         part(state, lent, 0),
         part(page, lent, 1),
@@ -126,12 +141,14 @@ fn tell(
     let was_page = *page;
     let was_legends = *legends;
     let was_tables = *tables;
+    let mut paper = 1.0;
     let mut buffer = [stores::UNWRITTEN; stores::BUFFER_ROOM];
     let answer = lend(
         letter,
         given,
         n,
         lent,
+        &mut paper,
         &mut buffer,
         state,
         page,
@@ -151,6 +168,9 @@ fn tell(
         &was_tables,
     );
     stores::written(answer, letter, given[0], &buffer, page);
+    if letter == b'F' {
+        show::feet(paper);
+    }
 }
 
 // One line of the script, and whether it could be read.

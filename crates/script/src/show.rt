@@ -105,3 +105,29 @@ pub fn state(s: &State, page: &Page) {
     cell(line, page);
     pages(s);
 }
+
+fn low_byte(n: u64) {
+    byte(b"", (n % 0x100) as u8);
+}
+
+// Eight bytes, the high one first.
+fn eight(n: u64) {
+    low_byte(n / 0x100_0000_0000_0000);
+    low_byte(n / 0x1_0000_0000_0000);
+    low_byte(n / 0x100_0000_0000);
+    low_byte(n / 0x1_0000_0000);
+    low_byte(n / 0x100_0000);
+    low_byte(n / 0x1_0000);
+    low_byte(n / 0x100);
+    low_byte(n);
+}
+
+// The bytes of a double; one that is no number has none of its own.
+pub fn feet(x: f64) {
+    text(b" feet");
+    if x != x {
+        text(b" none");
+        return;
+    }
+    eight(f64::to_bits(x));
+}

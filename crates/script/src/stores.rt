@@ -51,6 +51,13 @@ pub fn double(given: &Given, at: usize) -> usize
     seq::wide(given[at]) * 256 + seq::wide(given[next])
 }
 
+// A number of four bytes.
+pub fn quadruple(given: &Given, at: usize) -> u32
+    requires { ⌜ at ≤ 16 ⌝ }
+{
+    (double(given, at) as u32) * 0x1_0000 + (double(given, at + 2) as u32)
+}
+
 // As much of a store as is to be lent, or all if there is no more.
 pub fn part<'a>(s: &'a mut [u8], lent: &Lent, which: usize) -> &'a mut [u8]
     requires { ⌜ which < 5 ⌝ }

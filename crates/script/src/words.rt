@@ -127,6 +127,7 @@ pub fn meant(letter: u8, n: usize) -> bool {
         b'K' => n == 0,
         b'X' => n == 0,
         b'N' => n == 0,
+        b'F' => n == 12,
         b'P' => n == 2,
         b'G' => n == 3,
         b'M' => n == 3,

@@ -57,7 +57,8 @@ fn after(refusal: Refusal) -> Refusal {
         Refusal::BadForm => plain(b"BAD_FORM", Refusal::TwoPages),
         Refusal::TwoPages => plain(b"TWO_PAGES", Refusal::NoneBetween),
         Refusal::NoneBetween => plain(b"NONE_BETWEEN", Refusal::MostBetween),
-        Refusal::MostBetween => plain(b"MOST_BETWEEN", Refusal::Accepted),
+        Refusal::MostBetween => plain(b"MOST_BETWEEN", Refusal::BadPaper),
+        Refusal::BadPaper => plain(b"BAD_PAPER", Refusal::Accepted),
     }
 }
 
