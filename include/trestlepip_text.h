@@ -20,6 +20,7 @@ static inline const char *trestlepip_number_text(unsigned number)
     case 11: return "one command would complete two pages";
     case 12: return "no page is between this station and the one before it";
     case 13: return "32,767 pages are released and not yet stacked";
+    case 16: return "for feet of paper: the form length is not listed, or the copies are not 1 to 255";
     default: return "a number that is not listed";
     }
 }
