@@ -1,7 +1,8 @@
 /*
  * The names of the header that crates/tables/stdout does not have, held to the library: the bits of status and sense, the locations, the counts in the
  * state, and the most pages between two counters. tools/tables asks that each of them stands here. The readers of a cell's code and mark, beside what
- * the library writes. The texts of trestlepip_text.h: one for each number, cause and data check.
+ * the library writes; the feet of a page, by the reader of the channel's counter. The texts of trestlepip_text.h: one for each number, cause and data
+ * check.
  */
 #include "printer.h"
 #include "trestlepip_text.h"
@@ -366,6 +367,19 @@ static void check_most_pages(struct printer *p)
     }
 }
 
+/* The feet of one page on the form, by the counter that the reader gives before and after it; and the number that refuses copies. */
+static void check_paper(struct printer *p)
+{
+    double feet = -1.5;
+    printer_start(p, FORM);
+    uint16_t initial = (uint16_t)trestlepip_channel_page(p->state);
+    printer_complete(p);
+    printer_release(p);
+    uint16_t final = (uint16_t)trestlepip_channel_page(p->state);
+    check(accepted(trestlepip_feet(initial, final, 1, FORM, &feet)) && feet == FORM / 288.0, "other feet than those of one page, form", FORM);
+    check(trestlepip_number(trestlepip_feet(initial, final, 0, FORM, &feet)) == TRESTLEPIP_BAD_PAPER && feet == 0, "feet of copies", 0);
+}
+
 /* The state ends after its last field: one byte less or more is no state. */
 static void check_end(struct printer *p)
 {
@@ -414,12 +428,13 @@ static void check_texts(const char *(*text)(unsigned), const unsigned *numbers, 
     }
 }
 
+/* The list of numbers serves for the causes too, which count from 1. */
 static void check_all_texts(void)
 {
-    static const unsigned numbers[] = {0, 1, 2, 3, 4, 5, 6, 7, 8, 9, 10, 11, 12, 13};
+    static const unsigned numbers[] = {0, 1, 2, 3, 4, 5, 6, 7, 8, 9, 10, 11, 12, TRESTLEPIP_MOST_BETWEEN, TRESTLEPIP_BAD_PAPER};
     static const unsigned checks[] = {
         TRESTLEPIP_SENSE_1_UNPRINTABLE, TRESTLEPIP_SENSE_1_NO_TABLE, TRESTLEPIP_SENSE_1_NO_MATCH, TRESTLEPIP_SENSE_1_MULTIPLE};
-    check_texts(trestlepip_number_text, numbers, TRESTLEPIP_MOST_BETWEEN + 1);
+    check_texts(trestlepip_number_text, numbers, sizeof numbers / sizeof *numbers);
     check_texts(trestlepip_cause_text, numbers + 1, TRESTLEPIP_SEGMENT_FIELDS);
     check_texts(trestlepip_data_check_text, checks, sizeof checks / sizeof *checks);
 }
@@ -437,10 +452,11 @@ int main(void)
     check_slots(&p);
     check_mosts(&p);
     check_most_pages(&p);
+    check_paper(&p);
     check_end(&p);
     check_skips(&p);
     check_all_texts();
-    printf("names: %u rows of status and sense, merging, %u piles of writes, bad marks, modules, slots, skips, most pages and texts, %u faults\n",
-            (unsigned)ROWS, (unsigned)PILES, faults());
+    printf("names: %u rows of status and sense, merging, %u piles of writes, bad marks, modules, slots, skips, most pages, a page's feet and texts, "
+           "%u faults\n", (unsigned)ROWS, (unsigned)PILES, faults());
     return faults() == 0 ? 0 : 1;
 }
