@@ -244,11 +244,50 @@ static bool print_table(const struct work *works, size_t count, const struct tim
     return good;
 }
 
+/* ---- comparing alone ---- */
+
+static void compare_sum(uint32_t form, struct sum sum)
+{
+    const struct call feet = { CALL_FEET, form, &sum, 0 };
+    uint64_t answer = side_call(&library_side, &feet), plain_answer = side_call(&plain_side, &feet);
+    if (answer == plain_answer && memcmp(&library_side.feet, &plain_side.feet, sizeof library_side.feet) == 0)
+        return;
+    printf("feet of paper: %s and %s differ, initial %04X, final %04X, copies %u, form %u\n", library.name, plain.name,
+            (unsigned)sum.initial, (unsigned)sum.final, sum.copies, form);
+    exit(1);
+}
+
+/* No page, the most, and identifiers that are mixed alike in each run. Returns how many sums these are. */
+static unsigned compare_pages(uint32_t form, uint32_t copies)
+{
+    enum { MIXED = 6 };
+    static uint32_t mixed;
+    compare_sum(form, (struct sum){ 5, 5, copies });
+    compare_sum(form, (struct sum){ 5, 4, copies });
+    for (unsigned i = 0; i < MIXED; i++) {
+        mixed = mixed * 69069 + 1;
+        compare_sum(form, (struct sum){ (uint16_t)(mixed >> 16), (uint16_t)mixed, copies });
+    }
+    return 2 + MIXED;
+}
+
+/* Lengths and copies that are listed, others, and such as would be listed if two bytes were all of them. */
+static unsigned compare_feet(void)
+{
+    enum { FORM_MOST = 300, COPIES_MOST = 257, TWO_BYTES = 0x10000 };
+    unsigned sums = 0;
+    for (uint32_t form = 0; form <= FORM_MOST; form++)
+        for (uint32_t copies = 0; copies <= COPIES_MOST; copies++)
+            sums += compare_pages(form, copies) + compare_pages(form + TWO_BYTES, copies) + compare_pages(form, copies + TWO_BYTES);
+    return sums;
+}
+
 static void compare_all(const struct work *works, size_t count)
 {
     for (size_t i = 0; i < count; i++)
         begin(works + i);
-    printf("%zu works compared, no difference\n", count);
+    unsigned sums = compare_feet();
+    printf("%zu works and %u sums of feet compared, no difference\n", count, sums);
 }
 
 /* ---- */

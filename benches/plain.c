@@ -1,4 +1,4 @@
-/* The calls: numbers in their order, commands, movement, copies, page counters. */
+/* The calls: numbers in their order, commands, movement, copies, page counters, feet of paper. */
 #include "plain.h"
 
 #include "plain_line.h"
@@ -284,6 +284,11 @@ static unsigned pitch_bits(uint32_t pitch)
     }
 }
 
+static inline bool form_listed(uint32_t form)
+{
+    return form % HALF_INCH == 0 && halves_listed(form / HALF_INCH);
+}
+
 /* Numbers: 9 by sizes, then 10. A refused Start leaves a state of zeros. */
 uint64_t plain_start(uint32_t form,
         uint32_t pitch0, uint32_t pitch1, uint32_t pitch2, uint32_t pitch3,
@@ -297,8 +302,7 @@ uint64_t plain_start(uint32_t form,
     if (page_len != PAGE_BYTES || legends_len != LEGEND_BYTES || tables_len != TABLE_BYTES)
         return answer(TRESTLEPIP_BAD_STORE, 0);
     const unsigned bits[4] = { pitch_bits(pitch0), pitch_bits(pitch1), pitch_bits(pitch2), pitch_bits(pitch3) };
-    bool listed = form % HALF_INCH == 0 && halves_listed(form / HALF_INCH);
-    if (!listed || bits[0] == 0 || (bits[0] | bits[1] | bits[2] | bits[3]) > 3)
+    if (!form_listed(form) || bits[0] == 0 || (bits[0] | bits[1] | bits[2] | bits[3]) > 3)
         return answer(TRESTLEPIP_BAD_FORM, 0);
     p->halves = (uint8_t)(form / HALF_INCH);
     p->pitches = (uint8_t)(bits[0] | bits[1] << 2 | bits[2] << 4 | bits[3] << 6);
@@ -441,3 +445,15 @@ TALLY(fused)
 TALLY(stacked)
 TALLY(cancel)
 TALLY(restart)
+
+/* T-04: feet of paper. Numbers: 16. The product has 33 bits; a foot is 288 24ths of an inch. */
+uint64_t plain_feet(uint16_t initial, uint16_t final, uint32_t copies, uint32_t form, double *feet)
+{
+    if (!form_listed(form) || copies == 0 || copies > 255) {
+        *feet = 0;
+        return answer(TRESTLEPIP_BAD_PAPER, 0);
+    }
+    int64_t pages = (uint16_t)(final - initial);
+    *feet = (double)(pages * copies * form) / 288;
+    return answer(TRESTLEPIP_ACCEPTED, 0);
+}

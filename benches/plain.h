@@ -18,5 +18,6 @@ command_call plain_command;
 compose_call plain_compose;
 release_call plain_release;
 tally_call plain_transferred, plain_fused, plain_stacked, plain_cancel, plain_restart;
+feet_call plain_feet;
 
 #endif

@@ -20,9 +20,15 @@ void side_clean(struct side *s)
     memset(s->tables, UNTOUCHED, sizeof s->tables);
     memset(s->out, UNTOUCHED, sizeof s->out);
     memset(s->reply, UNTOUCHED, sizeof s->reply);
+    memset(&s->feet, UNTOUCHED, sizeof s->feet);
 }
 
 #define STORES s->state, s->program->state_bytes, s->page, s->page_len, s->legends, sizeof s->legends, s->tables, sizeof s->tables
+
+static uint64_t side_feet(struct side *s, uint32_t form, const struct sum *sum)
+{
+    return s->program->exports.feet(sum->initial, sum->final, sum->copies, form, &s->feet);
+}
 
 /* Start fits all four modules. */
 uint64_t side_call(struct side *s, const struct call *c)
@@ -36,7 +42,8 @@ uint64_t side_call(struct side *s, const struct call *c)
     case CALL_FUSED: return s->program->exports.fused(STORES);
     case CALL_STACKED: return s->program->exports.stacked(STORES);
     case CALL_CANCEL: return s->program->exports.cancel(STORES);
-    default: return s->program->exports.restart(STORES);
+    case CALL_RESTART: return s->program->exports.restart(STORES);
+    default: return side_feet(s, c->number, c->record);
     }
 }
 
@@ -63,6 +70,8 @@ const char *sides_differ(struct side *a, struct side *b, size_t answers)
         return "an answer";
     if (memcmp(a->state + a->program->counters_at, b->state + b->program->counters_at, COUNTER_BYTES) != 0)
         return "the page counters";
+    if (memcmp(&a->feet, &b->feet, sizeof a->feet) != 0)
+        return "the feet of paper";
     if (memcmp(a->page, b->page, sizeof a->page) != 0)
         return "the page";
     if (memcmp(a->legends, b->legends, sizeof a->legends) != 0)

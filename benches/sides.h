@@ -13,15 +13,21 @@ enum { COUNTER_BYTES = TRESTLEPIP_AFTER_ALL - TRESTLEPIP_AT_CHANNEL_PAGE };
 enum { STATE_ROOM = 256, OUT_ROOM = TRESTLEPIP_PAGE_BYTES + 64, REPLY_ROOM = TRESTLEPIP_SENSE_BYTES + 8, CALLS_MOST = 160 };
 
 enum call_kind {
-    CALL_START, CALL_COMMAND, CALL_COMPOSE, CALL_RELEASE, CALL_TRANSFERRED, CALL_FUSED, CALL_STACKED, CALL_CANCEL, CALL_RESTART
+    CALL_START, CALL_COMMAND, CALL_COMPOSE, CALL_RELEASE, CALL_TRANSFERRED, CALL_FUSED, CALL_STACKED, CALL_CANCEL, CALL_RESTART, CALL_FEET
 };
 
-/* One call: `number` is the form length of Start, the byte of Command, the index of Compose. The record is Command's. */
+/* One call: `number` is the form length of Start and Feet, the byte of Command, the index of Compose. The record is Command's; of Feet, its sum. */
 struct call {
     enum call_kind kind;
     uint32_t number;
-    const uint8_t *record;
+    const void *record;
     size_t record_len;
+};
+
+/* What Feet is given besides the form length. */
+struct sum {
+    uint16_t initial, final;
+    uint32_t copies;
 };
 
 /* The calls of one program, and three facts about its state. */
@@ -35,7 +41,7 @@ struct program {
 
 extern const struct program library, plain;
 
-/* A printer of one program: the buffers it is lent, the state to put back, and the answers of the latest round. */
+/* A printer of one program: the buffers it is lent, the state to put back, the answers of the latest round, and its latest feet. */
 struct side {
     const struct program *program;
     size_t page_len;
@@ -47,6 +53,7 @@ struct side {
     alignas(64) uint8_t out[OUT_ROOM];
     alignas(64) uint8_t reply[REPLY_ROOM];
     uint64_t answers[CALLS_MOST];
+    double feet;
 };
 
 /* Buffers as no call has touched them. */

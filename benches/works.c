@@ -42,12 +42,12 @@ static void fill_total(uint8_t *text, size_t size)
 
 /* ---- making a work ---- */
 
-static void ready(struct work *w, enum call_kind kind, uint32_t number, const uint8_t *record, size_t record_len)
+static void ready(struct work *w, enum call_kind kind, uint32_t number, const void *record, size_t record_len)
 {
     w->ready[w->ready_count++] = (struct call){ kind, number, record, record_len };
 }
 
-static void measure(struct work *w, enum call_kind kind, uint32_t number, const uint8_t *record, size_t record_len)
+static void measure(struct work *w, enum call_kind kind, uint32_t number, const void *record, size_t record_len)
 {
     w->round[w->round_count++] = (struct call){ kind, number, record, record_len };
 }
@@ -75,7 +75,7 @@ static void ready_released(struct work *w, unsigned pages, const uint8_t *text)
 }
 
 /* The same call over and over, each of them a part. */
-static void measure_often(struct work *w, unsigned times, enum call_kind kind, uint32_t number, const uint8_t *record, size_t record_len)
+static void measure_often(struct work *w, unsigned times, enum call_kind kind, uint32_t number, const void *record, size_t record_len)
 {
     for (unsigned i = 0; i < times; i++)
         measure(w, kind, number, record, record_len);
@@ -234,6 +234,16 @@ static void make_giving_up(struct making *m, const char *name, enum call_kind ki
     measure_often(w, 100, kind, 0, NULL, 0);
 }
 
+/* Over FFFF to 0000, and with a fraction that is no double. */
+static void make_feet(struct making *m)
+{
+    static const struct sum sum = { 0xFFF0, 0x01A7, 2 };
+    struct work *w = next_work(m);
+    snprintf(w->name, sizeof w->name, "feet of paper");
+    ready_form(w, FORM, 6);
+    measure_often(w, 100, CALL_FEET, FORM, &sum, 0);
+}
+
 /* A refusal on a printer with no legends, on a page that waits or is empty. */
 static struct work *make_refusal(struct making *m, unsigned number, const char *how, bool waiting, struct call c)
 {
@@ -250,6 +260,7 @@ static struct work *make_refusal(struct making *m, unsigned number, const char *
 /* Judging the marks takes as much as the refusal for the last of them takes longer than that for the first. */
 static void make_refusals(struct making *m)
 {
+    static const struct sum many_copies = { 0, 1, 256 };
     const struct call write = { CALL_COMMAND, 0x09, m->text, 132 }, release = { CALL_RELEASE, 0, NULL, 0 };
     make_refusal(m, 1, "byte FF", false, (struct call){ CALL_COMMAND, 0xFF, NULL, 0 });
     make_refusal(m, 2, "write of 0 bytes", false, (struct call){ CALL_COMMAND, 0x09, NULL, 0 });
@@ -264,6 +275,7 @@ static void make_refusals(struct making *m)
     make_refusal(m, 9, "stacker ahead of the fuser", false, write)->damage = BAD_STACKER;
     make_refusal(m, 12, "transferred with no page released", false, (struct call){ CALL_TRANSFERRED, 0, NULL, 0 });
     make_refusal(m, 13, "release with the most pages between", true, release)->damage = MOST_RELEASED;
+    make_refusal(m, 16, "feet of 256 copies", false, (struct call){ CALL_FEET, FORM, &many_copies, 0 });
 }
 
 /* Four segments at 6 lines per inch have a limit. */
@@ -327,6 +339,7 @@ size_t works_make(struct work *works)
     make_reports(&m);
     make_giving_up(&m, "cancel", CALL_CANCEL);
     make_giving_up(&m, "restart", CALL_RESTART);
+    make_feet(&m);
     make_refusals(&m);
     make_compose(&m, 0, 1, 6);
     make_compose(&m, 4, 1, 6);
