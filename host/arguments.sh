@@ -28,7 +28,7 @@ Blank lines and lines that begin with # are passed over. A line SAMPLE says: the
 
 Exit status: 0 all sheets are good; 1 the job stopped, and sheets are missing; 2 the arguments or the
 weights are refused, and nothing is printed; 3 some sheets are to be held back. A run that begins to
-print ends with a line on standard error, which says how many pages went out.
+print ends with a line on standard error: how many pages went out, and the feet of paper that they took.
 USAGE
 }
 

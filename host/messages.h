@@ -21,7 +21,7 @@
 #define SAYS_HOLD_ALL "hold back every sheet\n"
 #define SAYS_SOME_OUT "stopped: sheets 1 to %zu of %zu are out and good, except those to hold back; the rest did not come whole\n"
 #define SAYS_NONE_OUT "stopped: no sheet is out and good\n"
-#define SAYS_PAGES "pages that went out, by the printer's counters: %zu\n"
+#define SAYS_PAGES "pages that went out, by the printer's counters: %zu; feet of paper: %.1f\n"
 
 #define SAYS_USAGE "usage: morning [--heads] [--copy NAME] FILE DATE\n"
 #define SAYS_NO_MEMORY "there is not enough memory\n"

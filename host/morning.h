@@ -67,9 +67,19 @@ enum endings weights_read(struct herd *herd, FILE *from, const char *file, FILE 
 void *grown(void *(*allocate)(void *array, size_t bytes), void *array, size_t count, size_t size);
 
 /*
+ * The paper of the pages that came to the stacker: `feet`, for all copies that are printed, on a form of length `form`. It is the manual's sum since
+ * the channel's page counter was `initial`, and `earlier`, which is the sums before that.
+ */
+struct paper {
+    uint32_t form;
+    uint16_t initial;
+    double earlier, feet;
+};
+
+/*
  * A printer with all that the host keeps of it: the four buffers lent to every call, one to compose in, where the output goes and how it is to look.
  * `only` is the number of the one copy to print, 0 for all. `sheet` is the sheet in work, NULL before the first, `complete` the
- * number of the latest that is out, `pages` how many came to the stacker; `line` and `call` say what is done.
+ * number of the latest that is out, `pages` how many came to the stacker, `paper` what these took; `line` and `call` say what is done.
  */
 struct spool {
     uint8_t state[TRESTLEPIP_STATE_BYTES];
@@ -83,6 +93,7 @@ struct spool {
     bool heads, begun, stopped, all_held;
     struct sheet *sheet;
     size_t complete, pages;
+    struct paper paper;
     unsigned line;
     char call[sizeof "transferred"];
 };
@@ -99,7 +110,7 @@ void spool_send(struct spool *spool, uint8_t command, const uint8_t *record, siz
 /* The same for the weight that fills a sheet: channel 12 has to come with it, and with no other command. */
 void spool_send_last(struct spool *spool, uint8_t command, const uint8_t *record, size_t length);
 
-/* Reports the page that was released past each station, and counts it when it is stacked. */
+/* Reports the page that was released past each station, and counts it and its paper when it is stacked. */
 void spool_pass_stations(struct spool *spool);
 
 /*
@@ -114,7 +125,7 @@ void report_checks(const struct spool *spool, uint64_t answer, const uint8_t *se
 void report_channel_12(const struct spool *spool, bool came);
 void report_not_written(const struct spool *spool);
 
-/* Says which sheets are to be held back, of a job that stopped which are out, and last how many pages went out. Returns how the run ends. */
+/* Says which sheets are to be held back, of a job that stopped which are out, and last how many pages and feet went out. Returns how the run ends. */
 enum endings report_end(const struct spool *spool, const struct plan *plan);
 
 /* How many characters the text has. */

@@ -105,6 +105,6 @@ static enum endings report_sheets(const struct spool *spool, const struct plan *
 enum endings report_end(const struct spool *spool, const struct plan *plan)
 {
     enum endings ending = report_sheets(spool, plan);
-    fprintf(spool->reports, SAYS_PAGES, spool->pages);
+    fprintf(spool->reports, SAYS_PAGES, spool->pages, spool->paper.feet);
     return ending;
 }

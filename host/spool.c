@@ -99,9 +99,38 @@ static const struct {
     {"stacked", trestlepip_stacked},
 };
 
+static uint32_t copies_printed(const struct spool *spool)
+{
+    return spool->only != 0 ? 1 : COPIES;
+}
+
+/* A sum takes the difference of two identifiers, and so this many pages at most. */
+enum { SUM_PAGES_MOST = 0xFFFF };
+
+static void begin_sum(struct paper *paper, unsigned initial)
+{
+    paper->initial = (uint16_t)initial;
+    paper->earlier = paper->feet;
+}
+
+/* The feet of all pages so far. The sum is made anew with each page: feet that are added up page by page would be rounded as often. */
+static void sum_feet(struct spool *spool)
+{
+    struct paper *paper = &spool->paper;
+    unsigned final = trestlepip_channel_page(spool->state);
+    double feet;
+    begin_call(spool, "feet");
+    stop_if_refused(spool, trestlepip_feet(paper->initial, (uint16_t)final, copies_printed(spool), paper->form, &feet));
+    if (spool->stopped)
+        return;
+    paper->feet = paper->earlier + feet;
+    if (trestlepip_pages_between(final, paper->initial) == SUM_PAGES_MOST)
+        begin_sum(paper, final);
+}
+
 /*
  * A page went out when it is stacked: until then a cancel or a restart takes it back. Pages are added up one by one, since the stacker's counter goes
- * round, and a state that is damaged later cannot be asked.
+ * round, and a state that is damaged later cannot be asked. A page at which the job stops is neither among the pages nor in the feet.
  */
 void spool_pass_stations(struct spool *spool)
 {
@@ -110,7 +139,10 @@ void spool_pass_stations(struct spool *spool)
         begin_call(spool, stations[i].call);
         stop_if_refused(spool, stations[i].passed(STORES(spool)));
     }
-    spool->pages += trestlepip_pages_between(trestlepip_stacker_page(spool->state), before);
+    if (!spool->stopped)
+        sum_feet(spool);
+    if (!spool->stopped)
+        spool->pages += trestlepip_pages_between(trestlepip_stacker_page(spool->state), before);
 }
 
 /* A page is released only when all its copies are out; one that stopped between them is to be held back. */
@@ -134,6 +166,8 @@ void spool_start(struct spool *spool, uint32_t form)
 {
     begin_call(spool, "start");
     stop_if_refused(spool, trestlepip_start(form, 10, 10, 12, 15, STORES(spool)));
+    spool->paper.form = form;
+    begin_sum(&spool->paper, trestlepip_channel_page(spool->state));
 }
 
 static void send(struct spool *spool, bool is_last, uint8_t command, const uint8_t *record, size_t length)

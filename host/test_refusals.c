@@ -9,7 +9,7 @@
 #include "messages.h"
 #include "morning.h"
 
-enum { ROOM = 1024, FORM = 84, LAST_NUMBER = TRESTLEPIP_MOST_BETWEEN, LISTED_CAUSES = 10 };
+enum { ROOM = 1024, FORM = 84, LISTED_CAUSES = 10 };
 
 static unsigned failures;
 
@@ -54,7 +54,7 @@ static struct sheet sheet;
 static const struct plan plan = {&sheet, 1};
 static struct spool spool;
 
-/* A printer as after Start, before any sheet, whose output can be read back. */
+/* A printer as after Start, before any sheet, whose output can be read back. It prints one copy, as the sequence says that Start leaves. */
 static void begin(uint32_t form)
 {
     sheet = (struct sheet){.place = &calf_house, .number = 7, .page = 2, .pages = 3};
@@ -62,29 +62,43 @@ static void begin(uint32_t form)
     spool.sheets = scratch();
     spool.reports = scratch();
     spool.between = "";
+    spool.only = 1;
     spool_start(&spool, form);
 }
 
-/* Takes the last report off, which says that so many pages went out. */
+/* The feet of so many pages, in one copy. */
+static double feet_of(size_t pages)
+{
+    return (double)(pages * FORM) / 288;
+}
+
+/* Takes the last report off, which says that so many pages went out, and their feet. */
 static void take_pages(char *text, size_t pages, unsigned number)
 {
     char last[ROOM];
-    size_t all = strlen(text), length = (size_t)snprintf(last, sizeof last, SAYS_PAGES, pages);
+    size_t all = strlen(text), length = (size_t)snprintf(last, sizeof last, SAYS_PAGES, pages, feet_of(pages));
     bool counted = all >= length && strcmp(text + all - length, last) == 0;
-    check(counted, "other pages went out, after", number);
+    check(counted, "other pages or feet went out, after", number);
     if (counted)
         text[all - length] = '\0';
 }
 
-/* Ends the run, and returns its reports up to the last, which says that so many pages went out. */
-static const char *reports(enum endings ending, size_t pages, unsigned number)
+/* Ends the run, and returns all its reports. */
+static char *all_reports(enum endings ending, unsigned number)
 {
     enum endings ended = report_end(&spool, &plan);
     char *text = written(spool.reports);
     fputs(text, stderr);
     check(ended == ending, "wrong ending after", number);
-    take_pages(text, pages, number);
     fclose(spool.sheets);
+    return text;
+}
+
+/* Ends the run, and returns its reports up to the last, which says that so many pages went out, and their feet. */
+static const char *reports(enum endings ending, size_t pages, unsigned number)
+{
+    char *text = all_reports(ending, number);
+    take_pages(text, pages, number);
     return text;
 }
 
@@ -128,9 +142,16 @@ static void print_sheet(void)
     spool_send(&spool, TRESTLEPIP_CLEAR, NULL, 0);
 }
 
+/* Those that can be provoked, in their order. */
+static const unsigned numbers[] = {
+    TRESTLEPIP_NOT_LISTED, TRESTLEPIP_BAD_RECORD, TRESTLEPIP_LOAD_CHECK, TRESTLEPIP_PAGE_WAITING, TRESTLEPIP_PAGE_STARTED, TRESTLEPIP_NO_PAGE,
+    TRESTLEPIP_BAD_INDEX, TRESTLEPIP_TOO_SHORT, TRESTLEPIP_BAD_STORE, TRESTLEPIP_BAD_FORM, TRESTLEPIP_NONE_BETWEEN, TRESTLEPIP_MOST_BETWEEN,
+    TRESTLEPIP_BAD_PAPER,
+};
+
 /*
  * Numbers 6 and 7 cannot come by the spooler's way, which stops at neither; the calls are made beside it. Number 12 comes to stations that are told of
- * a page when none was released.
+ * a page when none was released. Number 16 comes if the spooler forgets which form it started on.
  */
 static void provoke(unsigned number)
 {
@@ -172,8 +193,12 @@ static void provoke(unsigned number)
     case TRESTLEPIP_NONE_BETWEEN:
         spool_pass_stations(&spool);
         break;
-    default:
+    case TRESTLEPIP_MOST_BETWEEN:
         set_counters(TRESTLEPIP_MOST_PAGES, 0);
+        print_sheet();
+        break;
+    default:
+        spool.paper.form = 100;
         print_sheet();
     }
 }
@@ -353,12 +378,13 @@ static void check_not_out(void)
     end(STOPPED, 0, "is not listed\n" SAYS_NONE_OUT, "said to be out: sheet", 7);
 }
 
-/* Two sheets move every counter by two, from FFFF to 0000 too, and are two pages wherever the counters stood. */
+/* Two sheets move every counter by two, from FFFF to 0000 too, and are two pages and their feet wherever the counters stood. */
 static void check_pages(unsigned channel, unsigned others)
 {
     unsigned after = (others + 2) % 65536;
     begin(FORM);
     set_counters(channel, others);
+    spool.paper.initial = (uint16_t)channel;
     print_sheet();
     print_sheet();
     check(trestlepip_channel_page(spool.state) == (channel + 2) % 65536, "not released: pages after", channel);
@@ -366,6 +392,103 @@ static void check_pages(unsigned channel, unsigned others)
     check(trestlepip_fuser_page(spool.state) == after, "not fused: pages after", others);
     check(trestlepip_stacker_page(spool.state) == after, "not stacked: pages after", others);
     end_with(ALL_GOOD, 2, "", "reported, though good, after", channel);
+}
+
+/*
+ * What a run says of its paper, by the copies that are wanted of each sheet: a copy takes 84 24ths of an inch, which are 7/24 of a foot. The last two
+ * come to 22.75 and 15.75 feet; added up page by page they would be a little less, and be shown so.
+ */
+static const struct {
+    unsigned only, sheets;
+    const char *feet;
+} papers[] = {
+    {0, 0, "0; feet of paper: 0.0\n"},
+    {0, 1, "1; feet of paper: 0.6\n"},
+    {0, 3, "3; feet of paper: 1.8\n"},
+    {1, 3, "3; feet of paper: 0.9\n"},
+    {COPIES, 3, "3; feet of paper: 0.9\n"},
+    {0, 39, "39; feet of paper: 22.8\n"},
+    {1, 54, "54; feet of paper: 15.8\n"},
+};
+
+/* Each name of a copy has one copy. */
+static void load_pairs(void)
+{
+    uint8_t pairs[2 * COPIES] = {0};
+    for (size_t i = 0; i < COPIES; i++)
+        pairs[2 * i] = 1;
+    spool_send(&spool, TRESTLEPIP_LOAD_OVERLAY_SEQUENCE, pairs, sizeof pairs);
+}
+
+static void check_paper(size_t i)
+{
+    begin(FORM);
+    load_pairs();
+    spool.only = papers[i].only;
+    for (unsigned n = 0; n < papers[i].sheets; n++)
+        print_sheet();
+    const char *text = all_reports(ALL_GOOD, papers[i].sheets), *number = strstr(text, ": ");
+    check(number && strcmp(number + 2, papers[i].feet) == 0, "other pages or feet: paper", (unsigned)i);
+}
+
+/* A printer that is started again counts from 0, and the run goes on counting. */
+static void check_started_again(void)
+{
+    begin(FORM);
+    print_sheet();
+    print_sheet();
+    spool_start(&spool, FORM);
+    print_sheet();
+    end_with(ALL_GOOD, 3, "", "reported, though good: sheet", 3);
+}
+
+/* A sum that is refused after a good one changes neither pages nor feet. */
+static void check_bad_paper(void)
+{
+    begin(FORM);
+    print_sheet();
+    spool.paper.form = 100;
+    print_sheet();
+    end(STOPPED, 1, "line 1, feet: refusal 16", "not reported: sheet", 2);
+}
+
+/* A run in which so many sums are full, as it stands two pages before the next is, and five pages on. */
+static void check_long_run(unsigned sums)
+{
+    enum { SUM = 65535, LEFT = 2, MORE = 5 };
+    unsigned initial = sums * SUM, pages = initial + SUM - LEFT;
+    begin(FORM);
+    set_counters(pages % 65536, pages % 65536);
+    spool.paper = (struct paper){FORM, (uint16_t)initial, feet_of(initial), feet_of(pages)};
+    spool.pages = pages;
+    for (unsigned i = 0; i < MORE; i++)
+        print_sheet();
+    check(spool.paper.feet == feet_of(pages + MORE), "other feet after pages", pages);
+    end_with(ALL_GOOD, pages + MORE, "", "reported, though good, after pages", pages);
+}
+
+/* A sheet that could not be written whole, after one that was. */
+static void check_not_written(void)
+{
+    begin(FORM);
+    print_sheet();
+    fclose(spool.sheets);
+    spool.sheets = fopen("/dev/full", "w");
+    print_sheet();
+    end(STOPPED, 1, "the sheets could not be written: ", "not reported: sheet", 2);
+}
+
+/* A page that is released, and stops the job before it is stacked, after one that is stacked. */
+static void check_not_stacked(void)
+{
+    begin(FORM);
+    print_sheet();
+    complete_page();
+    trestlepip_release(STORES(&spool));
+    spool.page[1] = 2;
+    spool_pass_stations(&spool);
+    check(trestlepip_channel_page(spool.state) == 2, "not released: page", 2);
+    end(STOPPED, 1, "line 1, transferred: refusal 9", "not reported: page", 2);
 }
 
 /* What a damaged printer counts is not asked: the sheet that came out before is still counted. */
@@ -505,9 +628,8 @@ int main(int argc, char **argv)
         fprintf(stderr, "usage: test_refusals NUMBERS\n");
         return 2;
     }
-    for (unsigned number = 1; number <= LAST_NUMBER; number++)
-        if (number != TRESTLEPIP_TWO_PAGES)
-            check_number(page, number);
+    for (size_t i = 0; i < sizeof numbers / sizeof *numbers; i++)
+        check_number(page, numbers[i]);
     for (unsigned cause = 1; cause <= LISTED_CAUSES; cause++)
         check_cause(page, cause);
     for (size_t i = 0; i < sizeof checks / sizeof *checks; i++)
@@ -520,6 +642,14 @@ int main(int argc, char **argv)
     check_pages(0, 0);
     check_pages(0xFFFF, 0xFFFF);
     check_pages(3, 0xFFFE);
+    for (size_t i = 0; i < sizeof papers / sizeof *papers; i++)
+        check_paper(i);
+    check_started_again();
+    check_bad_paper();
+    check_long_run(0);
+    check_long_run(1);
+    check_not_written();
+    check_not_stacked();
     check_damaged();
     check_damaged_mark();
     for (size_t i = 0; i < sizeof rules / sizeof *rules; i++)
@@ -527,7 +657,8 @@ int main(int argc, char **argv)
     check_memory();
     check_text();
     fclose(page);
-    printf("refusals: %u numbers, %u causes and %zu checks provoked, %zu rules shown, %u faults\n", (unsigned)LAST_NUMBER - 1, (unsigned)LISTED_CAUSES,
+    printf("refusals: %zu numbers, %u causes and %zu checks provoked, %zu rules shown, %u faults\n",
+        sizeof numbers / sizeof *numbers, (unsigned)LISTED_CAUSES,
         sizeof checks / sizeof *checks + sizeof unprintables / sizeof *unprintables + 1, sizeof rules / sizeof *rules, failures);
     return failures == 0 ? 0 : 1;
 }
