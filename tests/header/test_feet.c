@@ -134,15 +134,29 @@ static void try_edges(uint32_t form, uint32_t copies)
             try_sum(form, copies, initials[i], differences[j]);
 }
 
+static void try_chances(uint32_t form, uint32_t copies)
+{
+    for (unsigned i = 0; i < CHANCES; i++) {
+        unsigned initial = chance(ROUND);
+        try_sum(form, copies, initial, chance(ROUND));
+    }
+}
+
+static void try_differences(uint32_t form)
+{
+    for (unsigned difference = 0; difference < ROUND; difference++) {
+        unsigned initial = chance(ROUND);
+        try_sum(form, 1 + chance(COPIES_MOST), initial, difference);
+    }
+}
+
 static void try_form(uint32_t form)
 {
     for (uint32_t copies = 1; copies <= COPIES_MOST; copies++) {
         try_edges(form, copies);
-        for (unsigned i = 0; i < CHANCES; i++)
-            try_sum(form, copies, chance(ROUND), chance(ROUND));
+        try_chances(form, copies);
     }
-    for (unsigned difference = 0; difference < ROUND; difference++)
-        try_sum(form, 1 + chance(COPIES_MOST), chance(ROUND), difference);
+    try_differences(form);
 }
 
 /* ---- what is refused ---- */
@@ -160,11 +174,12 @@ static void try_refusal(struct sum s)
 /* With no page, one, one over FFFF to 0000, the most, and any. */
 static void try_refusals(uint32_t form, uint32_t copies)
 {
+    uint16_t initial = (uint16_t)chance(ROUND), final = (uint16_t)chance(ROUND);
     try_refusal((struct sum){5, 5, copies, form});
     try_refusal((struct sum){0, 1, copies, form});
     try_refusal((struct sum){0xFFFF, 0, copies, form});
     try_refusal((struct sum){1, 0, copies, form});
-    try_refusal((struct sum){(uint16_t)chance(ROUND), (uint16_t)chance(ROUND), copies, form});
+    try_refusal((struct sum){initial, final, copies, form});
 }
 
 /* Copies that in one byte or two would be good. */
