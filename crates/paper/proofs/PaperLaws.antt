@@ -1,17 +1,17 @@
 -- Laws of the numbers that 16 lets pass, and of their product.
-use Prim.Native.Nat.{ℕ, zero, suc, _+_, _-_, _*_, _%_, _^_, _≤_, _<_}
-use mathlib.Core.Path.{_≡_, refl, sym, ap}
+use Prim.Native.Nat.{ℕ, zero, suc, _*_, _/_, _%_, _≤_}
+use mathlib.Core.Path.{_≡_, refl, sym, ap, _∙_}
 use mathlib.Core.Bool.{Bool, true, false, not, cond}
 use mathlib.Core.Logic.{_⊎_, inl, inr}
 use mathlib.Core.List.{[], _∷_, map}
 use native.Mathlib.Omega.{arith}
-use native.Mathlib.Nat.{le-trans, mul-le-mul-right, mul-le-mul-left, mod-lt}
-use lib.Dec.{eqb, ltb, lit≤, lit<}
+use native.Mathlib.Nat.{le-trans, mul-assoc, mul-le-mul-right, mul-le-mul-left, mul-mod-left}
+use lib.Dec.{eqb}
 use lib.IntN.{pos, negsuc}
 use lib.Ieee.{fin, round}
-use borrow.Author.Tests.{ltb-false, eqb-false, not-false}
+use borrow.Author.Tests.{ltb-false, eqb-true, eqb-false, not-false}
 use Rattle.seq.specs.Words.{listed}
-use Rattle.seq.proofs.Laws.{or-left, or-right}
+use Rattle.seq.proofs.Laws.{or-left, or-right, listed-all}
 use Rattle.numbers.specs.Numbers.{rowOf, numberOf}
 use Rattle.form.specs.Form.{formLengths}
 use Rattle.form.proofs.FormLaws.{shortest, longest, short-form, long-form}
@@ -20,6 +20,7 @@ use Rattle.counters.specs.Counters.{between, mostCount}
 use Rattle.paper.specs.Feet.{Sent, sent, product, badPaper, noFeet, refusedPaper, shownPaper, paperUsed}
 
 pub record Passes (copies form : ℕ) : Type 0 where
+  pub known : listed formLengths form ≡ true
   pub long : shortest ≤ form
   pub short : form ≤ longest
   pub some : 1 ≤ copies
@@ -32,6 +33,7 @@ passes copies form e =
     let counted = or-right (not (listed formLengths form)) _ e in
     let other = eqb-false copies 0 (or-left (eqb copies 0) _ counted) in
     record {
+      known = known;
       long = long-form form known;
       short = short-form form known;
       some = omega (arith, other);
@@ -60,6 +62,16 @@ product-least t e = some (between (t .final) (t .initial))
     some : (pages : ℕ) → (pages * t .copies * t .form ≡ 0) ⊎ (shortest ≤ pages * t .copies * t .form)
     some zero = inl (omega arith)
     some (suc n) = let g = passes _ _ e in inr (times-most {a = 1} (times-most {a = 1} {b = suc n} (omega arith) (g .some)) (g .long))
+
+-- every listed length is whole half inches, so that 3 divides it, and the product
+pub product-thirds : (t : Sent) → badPaper (t .copies) (t .form) ≡ false → product t % 3 ≡ 0
+unfolding product formLengths
+product-thirds t e =
+    let m = t .form / 3 in
+    let sheets = between (t .final) (t .initial) * t .copies in
+    let h : t .form % 3 ≡ 0 = eqb-true _ _ (listed-all (λ n. eqb (n % 3) 0) (t .form) formLengths refl (passes _ _ e .known)) in
+    let whole : t .form ≡ m * 3 = omega (arith, h) in
+    ap (λ (n : ℕ). sheets * n % 3) whole ∙ ap (λ (n : ℕ). n % 3) (sym (mul-assoc sheets m 3)) ∙ mul-mod-left (sheets * m) 3
 
 -- 16 is given exactly for such numbers, whatever the identifiers, and then the feet are +0.
 pub sixteen-exactly : (t : Sent) → eqb (numberOf (paperUsed t .refusal)) 16 ≡ badPaper (t .copies) (t .form)

@@ -1,6 +1,6 @@
 -- A whole number divided by another and rounded once to a double: how far the quotient is from the exact fraction, and that the code's division is this.
 use Prim.Native.Nat.{ℕ, zero, suc, _+_, _-_, _*_, _/_, _%_, _^_, _≤_, _<_, compare, Ordering, Ordering·lt, Ordering·eq, Ordering·gt}
-use mathlib.Core.Path.{_≡_, refl, sym, ap, _∙_, subst}
+use mathlib.Core.Path.{_≡_, sym, ap, _∙_, subst}
 use mathlib.Core.Bool.{Bool, true, false, not, true≢false}
 use native.Mathlib.Nat.{le-trans, le-of-eq, le-of-lt, lt-of-le-of-lt, lt-of-lt-of-le, lt-of-not-le, not-le-of-lt, mul-comm, mul-assoc, mul-left-comm, mul-right-comm, mul-one, one-mul, pow-suc, mul-pos, mul-le-mul-right, mul-le-mul-left, mul-lt-mul-of-pos-right, le-of-mul-le-mul-right, eq-of-mul-eq-mul-right, div-add-mod', mod-lt, le-div-iff-mul-le, div-lt-iff-lt-mul}
 use native.Mathlib.Omega.{arith}
@@ -35,17 +35,38 @@ closest-half a b B =
     subst (λ (x : ℕ). Half (closest a b) x b) (div-add-mod' a b)
     (half (a / b) (a % b) b (compare (a % b * 2) b) (leb→le (a % b * 2) b) (nleb→lt (a % b * 2) b) (eqb→eq (a % b * 2) b) (mod-lt a B))
 
--- A double's least unit is 2 ^ -1074. In these units the fraction p / (4 × q) is n / (4 × q), and its double is z × 2 ^ a, where a digits are dropped. The
--- powers of two stand behind variables, h for 2 ^ 1019, since their numerals are too long to reckon with.
-not-over : (N p q h u k n z : ℕ) → 0 < h → z * (4 * q * u) ≡ N * (2 * h) * (4 * q) → n ≡ p * (2 ^ 54 * (2 * h)) → u ≤ k * h → Half z n (4 * q * u)
-    → 4 * q * N ≤ p * 2 ^ 54 + q * k
-not-over N p q h u k n z l e f s c =
-    le-of-mul-le-mul-right {k = h} (let m : q * u ≤ q * (k * h) = mul-le-mul-left q s in let a = c .not-above in omega arith) l
+-- b × n and m are w apart at most
+pub record Within (m b n w : ℕ) : Type 0 where
+  pub not-above : b * n ≤ m + w
+  pub not-below : m ≤ b * n + w
 
-not-under : (N p q h u k n z : ℕ) → 0 < h → z * (4 * q * u) ≡ N * (2 * h) * (4 * q) → n ≡ p * (2 ^ 54 * (2 * h)) → u ≤ k * h → Half z n (4 * q * u)
-    → p * 2 ^ 54 ≤ 4 * q * N + q * k
-not-under N p q h u k n z l e f s c =
-    le-of-mul-le-mul-right {k = h} (let m : q * u ≤ q * (k * h) = mul-le-mul-left q s in let a = c .not-below in omega arith) l
+-- so it is with fewer units of both
+half-lowered : (z n b h : ℕ) → 0 < h → Half z (n * h) (b * h) → Half z n b
+half-lowered z n b h H c =
+    let e : z * b * h ≡ z * (b * h) = mul-assoc z b h in
+    let above = c .not-above in
+    let below = c .not-below in
+    record { not-above = le-of-mul-le-mul-right {k = h} (omega arith) H; not-below = le-of-mul-le-mul-right {k = h} (omega arith) H }
+
+-- Of m over 4 × q × j, z is the nearest whole number: then z × j is within half of j of m over 4 × q. k is 2 × j at least.
+within-half : (z m q j k : ℕ) → 2 * j ≤ k → Half z m (4 * q * j) → Within m (4 * q) (z * j) (q * k)
+within-half z m q j k h c =
+    let e : z * (4 * q * j) ≡ 4 * q * (z * j) = mul-left-comm z (4 * q) j in
+    let f : q * (2 * j) ≤ q * k = mul-le-mul-left q h in
+    let above = c .not-above in
+    let below = c .not-below in
+    record { not-above = omega arith; not-below = omega arith }
+
+-- Where m is a whole number of thirds of that, it is within a third.
+within-third : (z c u : ℕ) → 0 < u → Half z (c * u) (3 * u) → Within (c * u) (3 * u) z u
+within-third z c u H h =
+    let n : Half z c 3 = half-lowered z c 3 u H h in
+    let above : 3 * z ≤ c + 1 = (let x = n .not-above in omega arith) in
+    let below : c ≤ 3 * z + 1 = (let x = n .not-below in omega arith) in
+    let above-all : 3 * z * u ≤ (c + 1) * u = mul-le-mul-right u above in
+    let below-all : c * u ≤ (3 * z + 1) * u = mul-le-mul-right u below in
+    let e : 3 * u * z ≡ 3 * z * u = mul-right-comm 3 u z in
+    record { not-above = omega arith; not-below = omega arith }
 
 -- the same value over another denominator
 lowered : (x : Float) (g N s h : ℕ) → 0 < h → g ≡ N * h → HasValue x false g (s * h) → HasValue x false N s
@@ -99,36 +120,69 @@ module _ (p q : ℕ) (Q : 0 < q) where
       let many : 1072 < size (n / d) = lt-of-not-le (λ (g : size (n / d) ≤ 1072). not-le-of-lt (lt-of-lt-of-le (size-lt (n / d)) (pow-mono g)) over) in
       omega arith
 
-  -- the double in units of 2 ^ -54
-  abbrev pub shown : ℕ
-  shown = z * 2 ^ (a - 1020)
-
-  regrouped : q ≤ p → z * 2 ^ a ≡ shown * 2 ^ 1020
-  regrouped l =
-      ap (λ (c : ℕ). z * c) (ap (λ (c : ℕ). 2 ^ c) (sym (back a 1020 (dropped-least l))) ∙ pow-add 2 (a - 1020) 1020) ∙ sym (mul-assoc z (2 ^ (a - 1020)) (2 ^ 1020))
-
   kept-half : Half z n (d * 2 ^ a)
   kept-half = closest-half n (d * 2 ^ a) (mul-pos D (pow-pos a))
 
-  pub shown-is : p < 2 ^ 53 → d < 2 ^ 53 → q ≤ p → HasValue (round binary64 false p d) false shown (2 ^ 54)
-  shown-is fit few l =
-      let low : 2 ^ a ≤ 2 ^ 1072 = pow-mono (dropped-most 53 (lt-of-lt-of-le fit (le-trans (le-of-eq (sym (one-mul (2 ^ 53)))) (mul-le-mul-right (2 ^ 53) Q)))) in
-      let unit : d * 2 ^ a ≤ 2 ^ 1127 = le-trans (times-most (le-of-lt few) low) (lit≤ tt) in
-      let fine : grid binary64 p d < overflow binary64 = lt-of-le-of-lt (bounded z (2 ^ a) d n (2 ^ 1127) D (mul-le-mul-right (2 ^ 1074) (le-of-lt fit)) unit kept-half) (lit< tt) in
-      lowered (round binary64 false p d) (z * 2 ^ a) shown (2 ^ 54) (2 ^ 1020) (pow-pos 1020) (regrouped l) (round-val binary64 p d fine)
+  module _ (l : q ≤ p) where
+    -- the unit of the last digit, and the double, in units of 2 ^ -54
+    abbrev unit : ℕ
+    unit = 2 ^ (a - 1020)
 
-  module _ (l : q ≤ p) (k : ℕ) (few : p < q * 2 ^ k) where
-    regrouped-all : z * (d * 2 ^ a) ≡ shown * (2 * 2 ^ 1019) * d
-    regrouped-all = mul-left-comm z d (2 ^ a) ∙ ap (λ (c : ℕ). d * c) (regrouped l) ∙ mul-comm d (shown * 2 ^ 1020)
+    abbrev pub shown : ℕ
+    shown = z * unit
 
-    unit-most : 2 ^ a ≤ 2 ^ k * 2 ^ 1019
-    unit-most = le-trans (pow-mono (dropped-most k few)) (le-of-eq (pow-add 2 k 1019))
+    unit-of : 2 ^ a ≡ unit * 2 ^ 1020
+    unit-of = ap (λ (c : ℕ). 2 ^ c) (sym (back a 1020 (dropped-least l))) ∙ pow-add 2 (a - 1020) 1020
 
-    pub shown-not-above : d * shown ≤ p * 2 ^ 54 + q * 2 ^ k
-    shown-not-above = not-over shown p q (2 ^ 1019) (2 ^ a) (2 ^ k) n z (pow-pos 1019) regrouped-all refl unit-most kept-half
+    unit-most : (k : ℕ) → p < q * 2 ^ k → 2 * unit ≤ 2 ^ k
+    unit-most k few =
+        let least = dropped-least l in
+        let most = dropped-most k few in
+        le-trans (le-of-eq (mul-comm 2 unit ∙ sym (pow-add 2 (a - 1020) 1))) (pow-mono (omega arith))
 
-    pub shown-not-below : p * 2 ^ 54 ≤ d * shown + q * 2 ^ k
-    shown-not-below = not-under shown p q (2 ^ 1019) (2 ^ a) (2 ^ k) n z (pow-pos 1019) regrouped-all refl unit-most kept-half
+    shown-half : Half z (p * 2 ^ 54) (d * unit)
+    shown-half =
+        half-lowered z (p * 2 ^ 54) (d * unit) (2 ^ 1020) (pow-pos 1020)
+        (subst (λ (x : ℕ). Half z x (d * unit * 2 ^ 1020)) (sym (mul-assoc p (2 ^ 54) (2 ^ 1020)))
+        (subst (λ (x : ℕ). Half z n x) (ap (λ (c : ℕ). d * c) unit-of ∙ sym (mul-assoc d unit (2 ^ 1020))) kept-half))
+
+    pub shown-within : (k : ℕ) → p < q * 2 ^ k → Within (p * 2 ^ 54) d shown (q * 2 ^ k)
+    shown-within k few = within-half z (p * 2 ^ 54) q unit (2 ^ k) (unit-most k few) shown-half
+
+    pub shown-is : p < 2 ^ 53 → d < 2 ^ 53 → HasValue (round binary64 false p d) false shown (2 ^ 54)
+    shown-is fit few =
+        let low : 2 ^ a ≤ 2 ^ 1072 = pow-mono (dropped-most 53 (lt-of-lt-of-le fit (le-trans (le-of-eq (sym (one-mul (2 ^ 53)))) (mul-le-mul-right (2 ^ 53) Q)))) in
+        let all : d * 2 ^ a ≤ 2 ^ 1127 = le-trans (times-most (le-of-lt few) low) (lit≤ tt) in
+        let fine : grid binary64 p d < overflow binary64 = lt-of-le-of-lt (bounded z (2 ^ a) d n (2 ^ 1127) D (mul-le-mul-right (2 ^ 1074) (le-of-lt fit)) all kept-half) (lit< tt) in
+        lowered (round binary64 false p d) (z * 2 ^ a) shown (2 ^ 54) (2 ^ 1020) (pow-pos 1020) (ap (λ (c : ℕ). z * c) unit-of ∙ sym (mul-assoc z unit (2 ^ 1020))) (round-val binary64 p d fine)
+
+-- Over 288, where 3 divides p: the double is within a third of the last digit's unit.
+module _ (r : ℕ) (l : 72 ≤ 3 * r) (fit : 3 * r < 2 ^ 53) where
+  abbrev j : ℕ
+  j = drop 53 (3 * r * 2 ^ 1074) 288 - 1020
+
+  few-digits : j ≤ 49
+  few-digits = let most = dropped-most (3 * r) 72 (lit< tt) 50 (omega (arith, fit)) in omega arith
+
+  thirds : 3 * r * 2 ^ 54 ≡ r * 2 ^ (49 - j) * (96 * 2 ^ j)
+  thirds =
+      let e : 2 ^ 49 ≡ 2 ^ (49 - j) * 2 ^ j = ap (λ (c : ℕ). 2 ^ c) (sym (back 49 j few-digits)) ∙ pow-add 2 (49 - j) j in
+      mul-right-comm 3 r (2 ^ 54) ∙ mul-comm (3 * 2 ^ 54) r ∙ ap (λ (c : ℕ). r * (96 * c)) e ∙ ap (λ (c : ℕ). r * c) (mul-left-comm 96 (2 ^ (49 - j)) (2 ^ j))
+      ∙ sym (mul-assoc r (2 ^ (49 - j)) (96 * 2 ^ j))
+
+  pub third-within : (k : ℕ) → 3 * r < 72 * 2 ^ k → Within (3 * r * 2 ^ 54) 288 (shown (3 * r) 72 (lit< tt) l) (48 * 2 ^ k)
+  third-within k few =
+      let z = kept 53 (3 * r * 2 ^ 1074) 288 in
+      let u = 96 * 2 ^ j in
+      let c = r * 2 ^ (49 - j) in
+      let h : Half z (c * u) (3 * u) = subst (λ (x : ℕ). Half z (c * u) x) (mul-assoc 3 96 (2 ^ j)) (subst (λ (x : ℕ). Half z x (288 * 2 ^ j)) thirds (shown-half (3 * r) 72 (lit< tt) l)) in
+      let w = within-third z c u (mul-pos (lit< tt) (pow-pos j)) h in
+      let above = w .not-above in
+      let below = w .not-below in
+      let same : 3 * u * z ≡ 288 * (z * 2 ^ j) = ap (λ (x : ℕ). x * z) (sym (mul-assoc 3 96 (2 ^ j))) ∙ mul-assoc 288 (2 ^ j) z ∙ ap (λ (x : ℕ). 288 * x) (mul-comm (2 ^ j) z) in
+      let most = unit-most (3 * r) 72 (lit< tt) l k few in
+      let all = thirds in
+      record { not-above = omega arith; not-below = omega arith }
 
 -- A whole number below 2 ^ 53 is a double, and one division of it by 288.0, which is 9 × 2 ^ 5, is this rounding.
 whole : (p : ℕ) → p < 2 ^ 53 → HasValue (ofInt binary64 (pos p)) false p 1

@@ -1,5 +1,6 @@
 -- Document 02, T-04: the distance between the feet that are shown and the exact fraction, over whole numbers. Every definition here is of that request.
-use Prim.Native.Nat.{ℕ, _+_, _*_, _^_, _≤_, _<_}
+use Prim.Native.Nat.{ℕ, _+_, _*_, _%_, _^_, _≤_, _<_}
+use mathlib.Core.Path.{_≡_}
 use mathlib.Core.Bool.{false}
 use lib.Ieee.{Float}
 use lib.Ieee.Exact.{HasValue}
@@ -16,13 +17,17 @@ pub record Apart (p n d : ℕ) : Type 0 where
   pub not-above : footUnits * n ≤ p * 2 ^ 54 + d
   pub not-below : p * 2 ^ 54 ≤ footUnits * n + d
 
--- A quarter of a foot, three inches, in our units.
+-- A quarter and a sixth of a foot, three inches and two, in our units.
 abbrev pub quarter : ℕ
 quarter = 6 * halfInch
 
--- The double x is a whole number of 2 ^ -54 feet; and where there are fewer than 2 ^ k quarter feet, it is no further from p / 288 than one part in
--- 2 ^ 54 of them: 72 × 2 ^ k over 288 × 2 ^ 54. For the least such k that is half a unit of the double's last digit.
+abbrev pub sixth : ℕ
+sixth = 4 * halfInch
+
+-- The double x is a whole number of 2 ^ -54 feet, n. For any k with fewer than 2 ^ k quarter feet it differs from p / 288 by no more than 72 × 2 ^ k over
+-- 288 × 2 ^ 54. For the least such k that is half a unit of the double's last digit. Where 3 divides p, 48 stands for 72: a third of that unit.
 pub record Near (p : ℕ) (x : Float) : Type 0 where
   pub n : ℕ
   pub is : Is x n (2 ^ 54)
-  pub apart : (k : ℕ) → p < quarter * 2 ^ k → Apart p n (quarter * 2 ^ k)
+  pub half : (k : ℕ) → p < quarter * 2 ^ k → Apart p n (quarter * 2 ^ k)
+  pub third : p % 3 ≡ 0 → (k : ℕ) → p < quarter * 2 ^ k → Apart p n (sixth * 2 ^ k)

@@ -5,8 +5,8 @@ use mathlib.Core.Bool.{Bool, true, false, cond}
 use lib.Ieee.{Float}
 use Rattle.numbers.specs.Numbers.{rowOf, only}
 use Rattle.paper.specs.Feet.{Sent, product, footUnits, badPaper, noFeet, refusedPaper, shownPaper, paperUsed}
-use Rattle.paper.specs.Distance.{Is, Apart, Near}
-use Rattle.paper.proofs.PaperLaws.{sixteen-none}
+use Rattle.paper.specs.Distance.{Is, Apart, sixth, Near}
+use Rattle.paper.proofs.PaperLaws.{product-thirds, sixteen-none}
 use Rattle.paper.proofs.Distance.{under, near, exact}
 use Rattle.state.specs.Packed.{packed}
 use Rattle.state.specs.Host.{Told, told, feetTold}
@@ -34,9 +34,12 @@ module _ {answer : ℕ} {feet : Float} (t : Sent) (met : told answer feet ≡ fe
     pub near-in : Near (product t) feet
     near-in = subst (λ (x : Float). Near (product t) x) (sym left) (near t e)
 
-    -- 2 ^ -30 feet
+    -- 2 ^ -30 feet at most; and two thirds of that, which is reached
     pub farthest-in : Apart (product t) (near-in .n) (footUnits * 2 ^ 24)
-    farthest-in = near-in .apart 26 (under t e)
+    farthest-in = near-in .half 26 (under t e)
+
+    pub largest-in : Apart (product t) (near-in .n) (sixth * 2 ^ 26)
+    largest-in = near-in .third (product-thirds t e) 26 (under t e)
 
     pub exact-in : (y : Float) → Is y (product t) footUnits → Is feet (product t) footUnits
     exact-in y is = subst (λ (x : Float). Is x (product t) footUnits) (sym left) (exact t e y is)
