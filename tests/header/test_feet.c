@@ -14,8 +14,8 @@
 enum { FOOT = 288, PARTS = 54 };
 __extension__ typedef unsigned __int128 wide;
 
-/* 2 to the power -30 feet. */
-static const wide distance_most = (wide)FOOT << (PARTS - 30);
+/* 2 to the power -30 feet, from which the header says that no feet are further; and two thirds of it, which is proved, and reached. */
+static const wide distance_most = (wide)FOOT << (PARTS - 30), distance_proved = (wide)FOOT / 3 * 2 << (PARTS - 30);
 
 enum { ROUND = 65536, COPIES_MOST = 255, CHANCES = 500, UNLISTED_UP_TO = 1000, FAULTS_MOST = 20 };
 
@@ -82,13 +82,13 @@ static wide distance(wide parts, wide exact)
     return parts * FOOT > exact ? parts * FOOT - exact : exact - parts * FOOT;
 }
 
-/* Half of what lies between two doubles next to each other, where the fraction is. */
-static wide half_unit(uint64_t product)
+/* A third of what lies between two doubles next to each other, where the fraction is: 3 divides every product, so that no fraction is further off. */
+static wide third_of_unit(uint64_t product)
 {
     wide half = FOOT / 4;
     while (product >= half)
         half *= 2;
-    return half;
+    return half / 3 * 2;
 }
 
 /* Whether the double, which is so far off, is nearer than its neighbours. A fraction that is no double has no end in binary: it is never half way. */
@@ -106,7 +106,7 @@ static void judge_feet(const struct sum *s, uint64_t bits)
     bool read = read_parts(bits, &parts);
     wide off = distance(parts, exact);
     check_sum(read, "feet that no sum has: form", s);
-    check_sum(off <= half_unit(product), "further off than half a unit in the last place: form", s);
+    check_sum(off <= third_of_unit(product), "further off than a third of a unit in the last place: form", s);
     check_sum(off == 0 || product % 9 != 0, "not equal to a fraction that is a double: form", s);
     check_sum(off == 0 || is_nearest(bits, off, exact), "another double is nearer: form", s);
     tried.distance = off > tried.distance ? off : tried.distance;
@@ -222,8 +222,8 @@ static double in_feet(wide off)
 
 static void say_distance(void)
 {
-    printf("largest distance from the fraction %llu / (288 x 2^54) = %.2e feet, of at most %llu / (288 x 2^54) = %.2e",
-            (unsigned long long)tried.distance, in_feet(tried.distance), (unsigned long long)distance_most, in_feet(distance_most));
+    printf("largest distance from the fraction %llu / (288 x 2^54) = %.2e feet, proved %llu / (288 x 2^54), in the header 2^-30 = %.2e",
+            (unsigned long long)tried.distance, in_feet(tried.distance), (unsigned long long)distance_proved, in_feet(distance_most));
 }
 
 int main(void)
@@ -238,6 +238,7 @@ int main(void)
             refuse_form(form);
     refuse_form(UINT32_MAX);
     check(tried.distance <= distance_most, "further off than 2 to the power -30 feet: one of sums", tried.sums);
+    check(tried.distance == distance_proved, "the largest distance is not the one that is proved and reached, in sums", tried.sums);
     printf("feet: %u sums on %u forms, %u refusals; ", tried.sums, (unsigned)FORMS, tried.refusals);
     say_distance();
     printf(", %u faults\n", faults());
