@@ -14,6 +14,8 @@ use lib.Ieee.Digits.{size-lt, size-le, back}
 use lib.Ieee.Order.{drop, kept}
 use lib.Ieee.Exact.{HasValue, round-exact}
 use lib.Ieee.Scale.{grid, overflow, round-val, round-same}
+use Rattle.paper.specs.Feet.{footUnits, nearestTo}
+use Rattle.paper.specs.Distance.{quarter, sixth}
 use Rattle.paper.proofs.PaperLaws.{times-most}
 
 -- the nearest whole number to a / b is within a half of it
@@ -35,12 +37,12 @@ closest-half a b B =
     subst (λ (x : ℕ). Half (closest a b) x b) (div-add-mod' a b)
     (half (a / b) (a % b) b (compare (a % b * 2) b) (leb→le (a % b * 2) b) (nleb→lt (a % b * 2) b) (eqb→eq (a % b * 2) b) (mod-lt a B))
 
--- b × n and m are w apart at most
+-- b × n and m differ by w at most
 pub record Within (m b n w : ℕ) : Type 0 where
   pub not-above : b * n ≤ m + w
   pub not-below : m ≤ b * n + w
 
--- so it is with fewer units of both
+-- a common factor of both can be left out
 half-lowered : (z n b h : ℕ) → 0 < h → Half z (n * h) (b * h) → Half z n b
 half-lowered z n b h H c =
     let e : z * b * h ≡ z * (b * h) = mul-assoc z b h in
@@ -91,6 +93,8 @@ bounded z u d n m D h k c =
     let a = c .not-above in
     omega arith
 
+-- A double's least unit is 2 ^ -1074. In these units the fraction p / (4 × q) is n / d, and its double is z × 2 ^ a: a digits are dropped. Powers of two stand
+-- behind variables in the laws above, since their numerals are too long to reckon with.
 module _ (p q : ℕ) (Q : 0 < q) where
   abbrev d : ℕ
   d = 4 * q
@@ -156,31 +160,34 @@ module _ (p q : ℕ) (Q : 0 < q) where
         let fine : grid binary64 p d < overflow binary64 = lt-of-le-of-lt (bounded z (2 ^ a) d n (2 ^ 1127) D (mul-le-mul-right (2 ^ 1074) (le-of-lt fit)) all kept-half) (lit< tt) in
         lowered (round binary64 false p d) (z * 2 ^ a) shown (2 ^ 54) (2 ^ 1020) (pow-pos 1020) (ap (λ (c : ℕ). z * c) unit-of ∙ sym (mul-assoc z unit (2 ^ 1020))) (round-val binary64 p d fine)
 
--- Over 288, where 3 divides p: the double is within a third of the last digit's unit.
-module _ (r : ℕ) (l : 72 ≤ 3 * r) (fit : 3 * r < 2 ^ 53) where
+-- Of feet where 3 divides p: the double is within a third of the last digit's unit.
+abbrev third : ℕ
+third = 2 * sixth
+
+module _ (r : ℕ) (l : quarter ≤ 3 * r) (fit : 3 * r < 2 ^ 53) where
   abbrev j : ℕ
-  j = drop 53 (3 * r * 2 ^ 1074) 288 - 1020
+  j = drop 53 (3 * r * 2 ^ 1074) footUnits - 1020
 
   few-digits : j ≤ 49
-  few-digits = let most = dropped-most (3 * r) 72 (lit< tt) 50 (omega (arith, fit)) in omega arith
+  few-digits = let most = dropped-most (3 * r) quarter (lit< tt) 50 (omega (arith, fit)) in omega arith
 
-  thirds : 3 * r * 2 ^ 54 ≡ r * 2 ^ (49 - j) * (96 * 2 ^ j)
+  thirds : 3 * r * 2 ^ 54 ≡ r * 2 ^ (49 - j) * (third * 2 ^ j)
   thirds =
       let e : 2 ^ 49 ≡ 2 ^ (49 - j) * 2 ^ j = ap (λ (c : ℕ). 2 ^ c) (sym (back 49 j few-digits)) ∙ pow-add 2 (49 - j) j in
-      mul-right-comm 3 r (2 ^ 54) ∙ mul-comm (3 * 2 ^ 54) r ∙ ap (λ (c : ℕ). r * (96 * c)) e ∙ ap (λ (c : ℕ). r * c) (mul-left-comm 96 (2 ^ (49 - j)) (2 ^ j))
-      ∙ sym (mul-assoc r (2 ^ (49 - j)) (96 * 2 ^ j))
+      mul-right-comm 3 r (2 ^ 54) ∙ mul-comm (3 * 2 ^ 54) r ∙ ap (λ (c : ℕ). r * (third * c)) e ∙ ap (λ (c : ℕ). r * c) (mul-left-comm third (2 ^ (49 - j)) (2 ^ j))
+      ∙ sym (mul-assoc r (2 ^ (49 - j)) (third * 2 ^ j))
 
-  pub third-within : (k : ℕ) → 3 * r < 72 * 2 ^ k → Within (3 * r * 2 ^ 54) 288 (shown (3 * r) 72 (lit< tt) l) (48 * 2 ^ k)
+  pub third-within : (k : ℕ) → 3 * r < quarter * 2 ^ k → Within (3 * r * 2 ^ 54) footUnits (shown (3 * r) quarter (lit< tt) l) (sixth * 2 ^ k)
   third-within k few =
-      let z = kept 53 (3 * r * 2 ^ 1074) 288 in
-      let u = 96 * 2 ^ j in
+      let z = kept 53 (3 * r * 2 ^ 1074) footUnits in
+      let u = third * 2 ^ j in
       let c = r * 2 ^ (49 - j) in
-      let h : Half z (c * u) (3 * u) = subst (λ (x : ℕ). Half z (c * u) x) (mul-assoc 3 96 (2 ^ j)) (subst (λ (x : ℕ). Half z x (288 * 2 ^ j)) thirds (shown-half (3 * r) 72 (lit< tt) l)) in
+      let h : Half z (c * u) (3 * u) = subst (λ (x : ℕ). Half z (c * u) x) (mul-assoc 3 third (2 ^ j)) (subst (λ (x : ℕ). Half z x (footUnits * 2 ^ j)) thirds (shown-half (3 * r) quarter (lit< tt) l)) in
       let w = within-third z c u (mul-pos (lit< tt) (pow-pos j)) h in
       let above = w .not-above in
       let below = w .not-below in
-      let same : 3 * u * z ≡ 288 * (z * 2 ^ j) = ap (λ (x : ℕ). x * z) (sym (mul-assoc 3 96 (2 ^ j))) ∙ mul-assoc 288 (2 ^ j) z ∙ ap (λ (x : ℕ). 288 * x) (mul-comm (2 ^ j) z) in
-      let most = unit-most (3 * r) 72 (lit< tt) l k few in
+      let same : 3 * u * z ≡ footUnits * (z * 2 ^ j) = ap (λ (x : ℕ). x * z) (sym (mul-assoc 3 third (2 ^ j))) ∙ mul-assoc footUnits (2 ^ j) z ∙ ap (λ (x : ℕ). footUnits * x) (mul-comm (2 ^ j) z) in
+      let most = unit-most (3 * r) quarter (lit< tt) l k few in
       let all = thirds in
       record { not-above = omega arith; not-below = omega arith }
 
@@ -189,23 +196,23 @@ whole : (p : ℕ) → p < 2 ^ 53 → HasValue (ofInt binary64 (pos p)) false p 1
 unfolding ofInt
 whole p h = round-exact binary64 false p 1 p 1074 (lit< tt) h (lt-of-le-of-lt (mul-le-mul-right (2 ^ 1074) (le-of-lt h)) (lit< tt)) (sym (mul-one (p * 2 ^ 1074)))
 
-divided-once : (x : Float) (p : ℕ) → HasValue x false p 1 → div binary64 x (fin false 9 (pos 5)) ≡ round binary64 false p 288
+divided-once : (x : Float) (p : ℕ) → HasValue x false p 1 → div binary64 x (fin false 9 (pos 5)) ≡ nearestTo p footUnits
 unfolding div
 divided-once nan p v = absurd v
 divided-once (inf t) p v = absurd v
 divided-once (fin true m e) p v = absurd (true≢false (v .0))
 divided-once (fin false m e) p v =
-    round-same binary64 false (m * up e * 1) (288 * down e) p 288 (mul-pos (lit< tt) (down-pos e)) (lit< tt) (let q : m * up e * 1 ≡ p * down e = v .1 in omega arith)
+    round-same binary64 false (m * up e * 1) (footUnits * down e) p footUnits (mul-pos (lit< tt) (down-pos e)) (lit< tt) (let q : m * up e * 1 ≡ p * down e = v .1 in omega arith)
 
-pub divided : (p : ℕ) → p < 2 ^ 53 → div binary64 (ofInt binary64 (pos p)) (ofBits binary64 0x4072_0000_0000_0000) ≡ round binary64 false p 288
+pub divided : (p : ℕ) → p < 2 ^ 53 → div binary64 (ofInt binary64 (pos p)) (ofBits binary64 0x4072_0000_0000_0000) ≡ nearestTo p footUnits
 unfolding ofBits
 divided p h = divided-once _ p (whole p h)
 
 -- Where 9 divides p, p / 288 is r / 32, which is a double, and the rounding changes nothing.
-pub exact-nine : (r : ℕ) → r < 2 ^ 53 → HasValue (round binary64 false (9 * r) 288) false (9 * r) 288
+pub exact-nine : (r : ℕ) → r < 2 ^ 53 → HasValue (nearestTo (9 * r) footUnits) false (9 * r) footUnits
 exact-nine r h =
-    round-exact binary64 false (9 * r) 288 r 1069 (lit< tt) h (lt-of-le-of-lt (mul-le-mul-right (2 ^ 1069) (le-of-lt h)) (lit< tt))
-    (mul-assoc 9 r (2 ^ 1074) ∙ mul-left-comm 9 r (2 ^ 1074) ∙ sym (mul-assoc r (2 ^ 1069) 288))
+    round-exact binary64 false (9 * r) footUnits r 1069 (lit< tt) h (lt-of-le-of-lt (mul-le-mul-right (2 ^ 1069) (le-of-lt h)) (lit< tt))
+    (mul-assoc 9 r (2 ^ 1074) ∙ mul-left-comm 9 r (2 ^ 1074) ∙ sym (mul-assoc r (2 ^ 1069) footUnits))
 
 -- Of no other p a number m × 2 ^ e is p / 288. (9 divides the double of a number only if it divides the number, as 10 times it is one more than 9 times.)
 nine-of : (c i : ℕ) → c * 9 ≡ i → i % 9 ≡ 0
@@ -221,7 +228,7 @@ nine-power : (j i : ℕ) → i * 2 ^ j % 9 ≡ 0 → i % 9 ≡ 0
 nine-power zero i e = subst (λ (x : ℕ). x % 9 ≡ 0) (mul-one i) e
 nine-power (suc j) i e = nine-power j i (nine-half (i * 2 ^ j) (subst (λ (x : ℕ). x % 9 ≡ 0) (ap (λ (x : ℕ). i * x) (pow-suc 2 j) ∙ sym (mul-assoc i (2 ^ j) 2)) e))
 
-pub only-nine : (y : Float) (s : Bool) (p : ℕ) → HasValue y s p 288 → p % 9 ≡ 0
+pub only-nine : (y : Float) (s : Bool) (p : ℕ) → HasValue y s p footUnits → p % 9 ≡ 0
 only-nine nan s p v = absurd v
 only-nine (inf t) s p v = absurd v
 only-nine (fin t m (pos j)) s p v = nine-power 0 p (nine-of (m * 2 ^ j * 32) (p * 1) (mul-assoc (m * 2 ^ j) 32 9 ∙ v .1))

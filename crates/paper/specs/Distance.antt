@@ -7,7 +7,8 @@ use lib.Ieee.Exact.{HasValue}
 use Rattle.form.specs.Form.{halfInch}
 use Rattle.paper.specs.Feet.{footUnits}
 
--- The double x is a / b: it is finite, its sign is +, and of x = m × 2 ^ e and b the product is a.
+-- The double x is the fraction a / b. In the kit's words: x is m × 2 ^ e with the sign +, no infinity and no NaN; 2 ^ e is the fraction up e / down e of two
+-- whole numbers; and m × up e × b is a × down e.
 abbrev pub Is : Float → ℕ → ℕ → Type 0
 Is x a b = HasValue x false a b
 
@@ -25,7 +26,7 @@ abbrev pub sixth : ℕ
 sixth = 4 * halfInch
 
 -- The double x is a whole number of 2 ^ -54 feet, n. For any k with fewer than 2 ^ k quarter feet it differs from p / 288 by no more than 72 × 2 ^ k over
--- 288 × 2 ^ 54. For the least such k that is half a unit of the double's last digit. Where 3 divides p, 48 stands for 72: a third of that unit.
+-- 288 × 2 ^ 54: for the least such k that is half a unit of the double's last digit. Where 3 divides p it is 48 × 2 ^ k, a third of that unit.
 pub record Near (p : ℕ) (x : Float) : Type 0 where
   pub n : ℕ
   pub is : Is x n (2 ^ 54)

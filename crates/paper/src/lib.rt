@@ -41,6 +41,7 @@ fn feet(product: u64) -> f64
     (product as f64) / Paper::FOOT
 }
 
+// Refused, or the feet.
 pub fn used(initial: u16, last: u16, copies: u32, form: u32) -> Paper
     ensures { λ r. ⌜ r ≡ paperUsed (sent initial last copies form) ⌝ }
 {
