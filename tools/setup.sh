@@ -252,7 +252,7 @@ build() { # NAME SOURCE...
 # What each program is made of, but for the library and the second program.
 HOST='host/weights.c host/sheets.c host/spool.c host/show.c host/report.c host/text.c'
 MORNING="host/morning.c $HOST"
-REFUSALS="host/test_refusals.c $HOST"
+REFUSALS="host/test_refusals.c host/test_checks.c host/test_pages.c host/test_show.c host/test_memory.c host/test_run.c $HOST"
 SECOND='tests/second/second.c tests/second/state.c tests/second/stations.c tests/second/form.c tests/second/line.c tests/second/copies.c tests/second/feet.c'
 GENERATOR='tests/second/calls.c tests/second/station_calls.c tests/second/feet_calls.c tests/second/chance.c tests/second/look.c tests/second/damage.c'
 RECORDS='tests/second/records.c tests/second/fcb_records.c tests/second/legend_records.c'

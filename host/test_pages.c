@@ -1,0 +1,155 @@
+/* Asks how many pages and feet of paper a run says went out: of a few sheets, of very many, and of a job that stopped. */
+#include <string.h>
+
+#include "test_refusals.h"
+#include "test_run.h"
+
+/* Two sheets move every counter by two, from FFFF to 0000 too, and are two pages and their feet wherever the counters stood. */
+static void check_pages(unsigned channel, unsigned others)
+{
+    unsigned after = (others + 2) % 65536;
+    begin_run(FORM);
+    set_counters(channel, others);
+    spool.paper.initial = (uint16_t)channel;
+    print_sheet();
+    print_sheet();
+    check(trestlepip_channel_page(spool.state) == (channel + 2) % 65536, "not released: pages after", channel);
+    check(trestlepip_transfer_page(spool.state) == after, "not transferred: pages after", others);
+    check(trestlepip_fuser_page(spool.state) == after, "not fused: pages after", others);
+    check(trestlepip_stacker_page(spool.state) == after, "not stacked: pages after", others);
+    end_run_with(ALL_GOOD, 2, "", "reported, though good, after", channel);
+}
+
+/*
+ * What a run says of its paper, by the copies that are wanted of each sheet: a copy takes 84 24ths of an inch, which are 7/24 of a foot. The last two
+ * come to 22.75 and 15.75 feet; added up page by page they would be a little less, and be shown so.
+ */
+static const struct {
+    unsigned only, sheets;
+    const char *feet;
+} papers[] = {
+    {0, 0, "0; feet of paper: 0.0\n"},
+    {0, 1, "1; feet of paper: 0.6\n"},
+    {0, 3, "3; feet of paper: 1.8\n"},
+    {1, 3, "3; feet of paper: 0.9\n"},
+    {COPIES, 3, "3; feet of paper: 0.9\n"},
+    {0, 39, "39; feet of paper: 22.8\n"},
+    {1, 54, "54; feet of paper: 15.8\n"},
+};
+
+/* Each name of a copy has one copy. */
+static void load_pairs(void)
+{
+    uint8_t pairs[2 * COPIES] = {0};
+    for (size_t i = 0; i < COPIES; i++)
+        pairs[2 * i] = 1;
+    spool_send(&spool, TRESTLEPIP_LOAD_OVERLAY_SEQUENCE, pairs, sizeof pairs);
+}
+
+static void check_paper(size_t i)
+{
+    begin_run(FORM);
+    load_pairs();
+    spool.only = papers[i].only;
+    for (unsigned n = 0; n < papers[i].sheets; n++)
+        print_sheet();
+    const char *text = all_reports(ALL_GOOD, papers[i].sheets), *number = strstr(text, ": ");
+    check(number && strcmp(number + 2, papers[i].feet) == 0, "other pages or feet: paper", (unsigned)i);
+}
+
+/* A printer that is started again counts from 0, and the run goes on counting. */
+static void check_started_again(void)
+{
+    begin_run(FORM);
+    print_sheet();
+    print_sheet();
+    spool_start(&spool, FORM);
+    print_sheet();
+    end_run_with(ALL_GOOD, 3, "", "reported, though good: sheet", 3);
+}
+
+/* A sum that is refused after a good one changes neither pages nor feet. */
+static void check_bad_paper(void)
+{
+    begin_run(FORM);
+    print_sheet();
+    spool.paper.form = 100;
+    print_sheet();
+    end_run(STOPPED, 1, "line 1, feet: refusal 16", "not reported: sheet", 2);
+}
+
+/* A run in which so many sums are full, as it stands two pages before the next is, and five pages on. */
+static void check_long_run(unsigned sums)
+{
+    enum { SUM = 65535, LEFT = 2, MORE = 5 };
+    unsigned initial = sums * SUM, pages = initial + SUM - LEFT;
+    begin_run(FORM);
+    set_counters(pages % 65536, pages % 65536);
+    spool.paper = (struct paper){FORM, (uint16_t)initial, feet_of(initial), feet_of(pages)};
+    spool.pages = pages;
+    for (unsigned i = 0; i < MORE; i++)
+        print_sheet();
+    check(spool.paper.feet == feet_of(pages + MORE), "other feet after pages", pages);
+    end_run_with(ALL_GOOD, pages + MORE, "", "reported, though good, after pages", pages);
+}
+
+/* A sheet that could not be written whole, after one that was. */
+static void check_not_written(void)
+{
+    begin_run(FORM);
+    print_sheet();
+    fclose(spool.sheets);
+    spool.sheets = fopen("/dev/full", "w");
+    print_sheet();
+    end_run(STOPPED, 1, "the sheets could not be written: ", "not reported: sheet", 2);
+}
+
+/* A page that is released, and stops the job before it is stacked, after one that is stacked. */
+static void check_not_stacked(void)
+{
+    begin_run(FORM);
+    print_sheet();
+    complete_page();
+    trestlepip_release(STORES(&spool));
+    spool.page[1] = 2;
+    spool_pass_stations(&spool);
+    check(trestlepip_channel_page(spool.state) == 2, "not released: page", 2);
+    end_run(STOPPED, 1, "line 1, transferred: refusal 9", "not reported: page", 2);
+}
+
+/* What a damaged printer counts is not asked: the sheet that came out before is still counted. */
+static void check_damaged(void)
+{
+    begin_run(FORM);
+    print_sheet();
+    set_counters(0, 1000);
+    print_sheet();
+    end_run(STOPPED, 1, SHEET_7 "01: refusal 9", "not reported: counters", 1000);
+}
+
+/* A mark that is neither 0 nor 1 stops the job, also past the last line of the form. */
+static void check_damaged_mark(void)
+{
+    begin_run(FORM);
+    print_sheet();
+    spool.page[sizeof spool.page - 1] = 2;
+    print_sheet();
+    end_run(STOPPED, 1, SHEET_7 "01: refusal 9", "not reported: mark", 2);
+}
+
+void test_pages(void)
+{
+    check_pages(0, 0);
+    check_pages(0xFFFF, 0xFFFF);
+    check_pages(3, 0xFFFE);
+    for (size_t i = 0; i < sizeof papers / sizeof *papers; i++)
+        check_paper(i);
+    check_started_again();
+    check_bad_paper();
+    check_long_run(0);
+    check_long_run(1);
+    check_not_written();
+    check_not_stacked();
+    check_damaged();
+    check_damaged_mark();
+}
