@@ -43,7 +43,7 @@ static void check_check(FILE *page, size_t i)
     expect(page, "| Check |", checks[i].row, "data check", text);
     strcat(text, "\n");
     snprintf(line, sizeof line, SHEET_7 "%02X: %s" HOLD_7, checks[i].command, checks[i].channel ? checks[i].row : text);
-    begin_run(FORM);
+    begin_run();
     spool_send(&spool, TRESTLEPIP_LOAD_FCB, forms, sizeof forms);
     spool.sheet = &sheet;
     spool_send(&spool, checks[i].before, letter, sizeof letter);
@@ -82,7 +82,7 @@ static void check_unprintable(FILE *page, size_t i)
     char text[ROOM], all[3 * ROOM];
     expect(page, "| Check |", "80", "data check", text);
     snprintf(all, sizeof all, "%s%s%s", unprintables[i].before, text, unprintables[i].after);
-    begin_run(FORM);
+    begin_run();
     spool_send(&spool, unprintables[i].first, NULL, 0);
     spool_send(&spool, unprintables[i].second, NULL, 0);
     if (unprintables[i].command == TRESTLEPIP_LOAD_COPY_MODIFICATION) {
@@ -97,7 +97,7 @@ static void check_unprintable(FILE *page, size_t i)
 
 static void check_no_channel_12(void)
 {
-    begin_run(FORM);
+    begin_run();
     spool.sheet = &sheet;
     spool_send_last(&spool, TRESTLEPIP_WRITE_SPACE_1, letter, sizeof letter);
     spool_send(&spool, TRESTLEPIP_CLEAR, NULL, 0);
@@ -109,7 +109,7 @@ static void check_no_channel_12(void)
 /* A sheet that did not come out is not to be held back. */
 static void check_not_out(void)
 {
-    begin_run(FORM);
+    begin_run();
     spool.sheet = &sheet;
     spool_send(&spool, TRESTLEPIP_WRITE_NO_SPACE, no_letter, sizeof no_letter);
     spool_send(&spool, 0x00, NULL, 0);
@@ -119,7 +119,7 @@ static void check_not_out(void)
 /* Block by itself is no reason to hold a sheet back. */
 static void check_good_line(void)
 {
-    begin_run(FORM);
+    begin_run();
     spool_send(&spool, TRESTLEPIP_BLOCK, NULL, 0);
     print_sheet();
     end_run_with(ALL_GOOD, 1, "", "reported, though good, after", TRESTLEPIP_BLOCK);

@@ -8,7 +8,7 @@
 static void check_pages(unsigned channel, unsigned others)
 {
     unsigned after = (others + 2) % 65536;
-    begin_run(FORM);
+    begin_run();
     set_counters(channel, others);
     spool.paper.initial = (uint16_t)channel;
     print_sheet();
@@ -48,7 +48,7 @@ static void load_pairs(void)
 
 static void check_paper(size_t i)
 {
-    begin_run(FORM);
+    begin_run();
     load_pairs();
     spool.only = papers[i].only;
     for (unsigned n = 0; n < papers[i].sheets; n++)
@@ -60,7 +60,7 @@ static void check_paper(size_t i)
 /* A printer that is started again counts from 0, and the run goes on counting. */
 static void check_started_again(void)
 {
-    begin_run(FORM);
+    begin_run();
     print_sheet();
     print_sheet();
     spool_start(&spool, FORM);
@@ -71,7 +71,7 @@ static void check_started_again(void)
 /* A sum that is refused after a good one changes neither pages nor feet. */
 static void check_bad_paper(void)
 {
-    begin_run(FORM);
+    begin_run();
     print_sheet();
     spool.paper.form = 100;
     print_sheet();
@@ -83,7 +83,7 @@ static void check_long_run(unsigned sums)
 {
     enum { SUM = 65535, LEFT = 2, MORE = 5 };
     unsigned initial = sums * SUM, pages = initial + SUM - LEFT;
-    begin_run(FORM);
+    begin_run();
     set_counters(pages % 65536, pages % 65536);
     spool.paper = (struct paper){FORM, (uint16_t)initial, feet_of(initial), feet_of(pages)};
     spool.pages = pages;
@@ -96,7 +96,7 @@ static void check_long_run(unsigned sums)
 /* A sheet that could not be written whole, after one that was. */
 static void check_not_written(void)
 {
-    begin_run(FORM);
+    begin_run();
     print_sheet();
     fclose(spool.sheets);
     spool.sheets = fopen("/dev/full", "w");
@@ -107,7 +107,7 @@ static void check_not_written(void)
 /* A page that is released, and stops the job before it is stacked, after one that is stacked. */
 static void check_not_stacked(void)
 {
-    begin_run(FORM);
+    begin_run();
     print_sheet();
     complete_page();
     trestlepip_release(STORES(&spool));
@@ -120,7 +120,7 @@ static void check_not_stacked(void)
 /* What a damaged printer counts is not asked: the sheet that came out before is still counted. */
 static void check_damaged(void)
 {
-    begin_run(FORM);
+    begin_run();
     print_sheet();
     set_counters(0, 1000);
     print_sheet();
@@ -130,7 +130,7 @@ static void check_damaged(void)
 /* A mark that is neither 0 nor 1 stops the job, also past the last line of the form. */
 static void check_damaged_mark(void)
 {
-    begin_run(FORM);
+    begin_run();
     print_sheet();
     spool.page[sizeof spool.page - 1] = 2;
     print_sheet();

@@ -95,7 +95,7 @@ static void check_number(FILE *page, unsigned number)
     char name[4], line[ROOM];
     snprintf(name, sizeof name, "%u", number % 100);
     expect(page, "| Number |", name, ": refusal", line);
-    begin_run(FORM);
+    begin_run();
     provoke(number);
     check(spool.stopped || number == TRESTLEPIP_NO_PAGE || number == TRESTLEPIP_BAD_INDEX, "the job went on after refusal", number);
     spool.stopped = true;
@@ -107,7 +107,7 @@ static void check_cause(FILE *page, unsigned cause)
     char name[4], line[ROOM];
     snprintf(name, sizeof name, "%u", cause % 100);
     expect(page, "| Cause |", name, ", cause", line);
-    begin_run(FORM);
+    begin_run();
     spool_send(&spool, faults[cause - 1].command, faults[cause - 1].record, faults[cause - 1].length);
     spool_send(&spool, TRESTLEPIP_WRITE_NO_SPACE, letter, sizeof letter);
     check(spool.state[TRESTLEPIP_AT_WRITTEN] == 0, "the job went on after cause", cause);

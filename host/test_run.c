@@ -52,7 +52,7 @@ const uint8_t letter[] = {LETTER};
 static const struct place calf_house = {.title = "Calf house"};
 static const struct plan plan = {&sheet, 1};
 
-void begin_run(uint32_t form)
+void begin_run(void)
 {
     sheet = (struct sheet){.place = &calf_house, .number = 7, .page = 2, .pages = 3};
     memset(&spool, 0, sizeof spool);
@@ -60,7 +60,7 @@ void begin_run(uint32_t form)
     spool.reports = scratch();
     spool.between = "";
     spool.only = 1;
-    spool_start(&spool, form);
+    spool_start(&spool, FORM);
 }
 
 void complete_page(void)

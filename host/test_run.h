@@ -34,7 +34,7 @@ enum { LETTER = 0xC1 };
 extern const uint8_t letter[1];
 
 /* A printer as after Start, before any sheet, whose output can be read back. It prints one copy, as the sequence says that Start leaves. */
-void begin_run(uint32_t form);
+void begin_run(void);
 
 /* Leaves a completed page waiting, behind the spooler's back. */
 void complete_page(void);

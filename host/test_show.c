@@ -48,7 +48,7 @@ static void write_text(const char *text)
 
 static void check_rule(size_t i)
 {
-    begin_run(FORM);
+    begin_run();
     load_legend(rules[i].column, rules[i].legend);
     spool.sheet = &sheet;
     write_text(rules[i].first);
