@@ -13,7 +13,8 @@
  *   - include/trestlepip_text.h: a short text for each number, cause and data check, for a program's log.
  *
  * What the library promises: every call, with any value of any number and any length and contents of any buffer, returns an answer; a refused
- * call changes nothing but the sense bytes in the state (docs/NUMBERS.md), Start apart. An empty buffer may be a null pointer with length 0.
+ * call changes nothing but the sense bytes in the state (docs/NUMBERS.md), Start apart; and feet of paper that are refused are 0.0. An empty buffer may
+ * be a null pointer with length 0.
  *
  * What the host owes, and no proof covers:
  *   - each length is that of memory which the host may read, and which it may write where the parameter is not const;
