@@ -19,9 +19,9 @@
  * What the host owes, and no proof covers:
  *   - each length is that of memory which the host may read, and which it may write where the parameter is not const;
  *   - the buffers of one call do not overlap;
- *   - the pointer for the feet of paper is not null, and points to a double that the host may write; doubles are rounded to nearest, as they are when a
- *     program begins (fesetround has not changed it);
- *   - no other thread touches them during the call. Printers with buffers of their own may be used by several threads at once.
+ *   - no other thread touches them during the call. Printers with buffers of their own may be used by several threads at once;
+ *   - the pointer for the feet of paper is not null, and points to a double that the host may write;
+ *   - doubles are rounded to nearest, as they are when a program begins: fesetround has not changed that.
  *
  * The example compiles as it stands, and is tested so (tests/header/):
  *
