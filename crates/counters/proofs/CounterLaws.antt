@@ -11,6 +11,9 @@ use Rattle.counters.specs.declared.Tally.{Tally}
 use Rattle.counters.specs.declared.Tally.the-variants.{Transferred, Fused, Stacked, Cancel, Restart}
 use Rattle.counters.specs.Counters.{next, between, counters, startCounters, counted, transferred, fused, stacked, cancelled, restarted, tallied, noneBetween, mostPages, pagesOut, mostBetween, mostCount, countersOk}
 
+pub between-most : (m n : ℕ) → between m n ≤ mostCount
+between-most m n = omega arith
+
 -- Counters that calls can lead to, each fact by its name; Start's are such.
 pub record Reachable (c : Counters) : Type 0 where
   pub channel : c .channel ≤ mostCount

@@ -11,7 +11,7 @@ use Rattle.form.specs.Form.{formLengths}
 use Rattle.paper.specs.Feet.{Sent, sent, product, footUnits, nearestTo, badPaper, paperUsed}
 use Rattle.paper.specs.Distance.{Is, Apart, quarter, sixth, Near}
 use Rattle.paper.proofs.PaperLaws.{product-most, product-least, product-thirds}
-use Rattle.paper.proofs.Rounding.{Within, shown, shown-is, shown-within, third-within, exact-nine, only-nine}
+use Rattle.paper.proofs.Rounding.{shown, shown-is, half-apart, third-apart, exact-nine, only-nine}
 
 -- no paper is 0 feet, exactly
 none-apart : (w : ℕ) → Apart 0 0 w
@@ -23,21 +23,13 @@ near-none p e =
     subst (λ (x : ℕ). Near x (nearestTo x footUnits)) (sym e)
     (record { n = 0; is = (refl, refl); half = λ k h. none-apart (quarter * 2 ^ k); third = λ m k h. none-apart (sixth * 2 ^ k) })
 
-apart : {p n w : ℕ} → Within (p * 2 ^ 54) footUnits n w → Apart p n w
-apart h = record { not-above = h .not-above; not-below = h .not-below }
-
-third-apart : (r : ℕ) {p : ℕ} → 3 * r ≡ p → (l : quarter ≤ p) → p < 2 ^ 53 → (k : ℕ) → p < quarter * 2 ^ k → Apart p (shown p quarter (lit< tt) l) (sixth * 2 ^ k)
-third-apart r e =
-    subst (λ (x : ℕ). (l : quarter ≤ x) → x < 2 ^ 53 → (k : ℕ) → x < quarter * 2 ^ k → Apart x (shown x quarter (lit< tt) l) (sixth * 2 ^ k)) e
-    (λ l fit k few. apart (third-within r l fit k few))
-
 near-some : (p : ℕ) → p < 2 ^ 53 → quarter ≤ p → Near p (nearestTo p footUnits)
 near-some p fit l =
     record {
-      n = shown p quarter (lit< tt) l;
-      is = shown-is p quarter (lit< tt) l fit (lit< tt);
-      half = λ k h. apart (shown-within p quarter (lit< tt) l k h);
-      third = λ m. third-apart (p / 3) (omega (arith, m)) l fit;
+      n = shown p l;
+      is = shown-is p l fit;
+      half = half-apart p l;
+      third = third-apart p l fit;
     }
 
 module _ (t : Sent) (e : badPaper (t .copies) (t .form) ≡ false) where

@@ -5,7 +5,7 @@ use mathlib.Core.Bool.{Bool, true, false, not, cond}
 use mathlib.Core.Logic.{_⊎_, inl, inr}
 use mathlib.Core.List.{[], _∷_, map}
 use native.Mathlib.Omega.{arith}
-use native.Mathlib.Nat.{le-trans, mul-assoc, mul-le-mul-right, mul-le-mul-left, mul-mod-left}
+use native.Mathlib.Nat.{mul-assoc, mul-le-mul, mul-mod-left}
 use lib.Dec.{eqb}
 use lib.IntN.{pos, negsuc}
 use lib.Ieee.{fin, round}
@@ -17,6 +17,7 @@ use Rattle.form.specs.Form.{formLengths}
 use Rattle.form.proofs.FormLaws.{shortest, longest, short-form, long-form}
 use Rattle.copies.specs.Copies.{mostCopies}
 use Rattle.counters.specs.Counters.{between, mostCount}
+use Rattle.counters.proofs.CounterLaws.{between-most}
 use Rattle.paper.specs.Feet.{Sent, sent, product, badPaper, noFeet, refusedPaper, shownPaper, paperUsed}
 
 pub record Passes (copies form : ℕ) : Type 0 where
@@ -40,19 +41,13 @@ passes copies form e =
       few = ltb-false _ _ (or-right (eqb copies 0) _ counted);
     }
 
-pub pages-most : (m n : ℕ) → between m n ≤ mostCount
-pages-most m n = omega arith
-
 -- the largest product: as many pages as identifiers can differ by, in as many copies as there may be, on the longest form
 abbrev pub mostProduct : ℕ
 mostProduct = mostCount * mostCopies * longest
 
-pub times-most : {a b c d : ℕ} → a ≤ b → c ≤ d → a * c ≤ b * d
-times-most {a} {b} {c} {d} h k = le-trans (mul-le-mul-right c h) (mul-le-mul-left b k)
-
 pub product-most : (t : Sent) → badPaper (t .copies) (t .form) ≡ false → product t ≤ mostProduct
 unfolding product
-product-most t e = let g = passes _ _ e in times-most (times-most (pages-most (t .final) (t .initial)) (g .few)) (g .short)
+product-most t e = let g = passes _ _ e in mul-le-mul (mul-le-mul (between-most (t .final) (t .initial)) (g .few)) (g .short)
 
 -- no paper, or a page of the shortest form at least
 pub product-least : (t : Sent) → badPaper (t .copies) (t .form) ≡ false → (product t ≡ 0) ⊎ (shortest ≤ product t)
@@ -61,7 +56,7 @@ product-least t e = some (between (t .final) (t .initial))
   where
     some : (pages : ℕ) → (pages * t .copies * t .form ≡ 0) ⊎ (shortest ≤ pages * t .copies * t .form)
     some zero = inl (omega arith)
-    some (suc n) = let g = passes _ _ e in inr (times-most {a = 1} (times-most {a = 1} {b = suc n} (omega arith) (g .some)) (g .long))
+    some (suc n) = let g = passes _ _ e in inr (mul-le-mul {n₁ = 1} (mul-le-mul {n₁ = 1} {n₂ = suc n} (omega arith) (g .some)) (g .long))
 
 -- every listed length is whole half inches, so that 3 divides it, and the product
 pub product-thirds : (t : Sent) → badPaper (t .copies) (t .form) ≡ false → product t % 3 ≡ 0
@@ -76,11 +71,11 @@ product-thirds t e =
 -- 16 is given exactly for such numbers, whatever the identifiers, and then the feet are +0.
 pub sixteen-exactly : (t : Sent) → eqb (numberOf (paperUsed t .refusal)) 16 ≡ badPaper (t .copies) (t .form)
 unfolding paperUsed rowOf
-sixteen-exactly t = by (badPaper (t .copies) (t .form)) refl
+sixteen-exactly t = by (badPaper (t .copies) (t .form))
   where
-    by : (b : Bool) → badPaper (t .copies) (t .form) ≡ b → eqb (numberOf (cond b refusedPaper (shownPaper (product t)) .refusal)) 16 ≡ b
-    by true e = refl
-    by false e = refl
+    by : (b : Bool) → eqb (numberOf (cond b refusedPaper (shownPaper (product t)) .refusal)) 16 ≡ b
+    by true = refl
+    by false = refl
 
 pub sixteen-none : (t : Sent) → badPaper (t .copies) (t .form) ≡ true → paperUsed t .feet ≡ noFeet
 unfolding paperUsed

@@ -1,13 +1,13 @@
--- A whole number divided by another and rounded once to a double: how far the quotient is from the exact fraction, and that the code's division is this.
+-- A whole number over 288, rounded once to a double: how far that is from the exact fraction, where it is equal, and that the code's division is this.
 use Prim.Native.Nat.{ℕ, zero, suc, _+_, _-_, _*_, _/_, _%_, _^_, _≤_, _<_, compare, Ordering, Ordering·lt, Ordering·eq, Ordering·gt}
 use mathlib.Core.Path.{_≡_, sym, ap, _∙_, subst}
 use mathlib.Core.Bool.{Bool, true, false, not, true≢false}
-use native.Mathlib.Nat.{le-trans, le-of-eq, le-of-lt, lt-of-le-of-lt, lt-of-lt-of-le, lt-of-not-le, not-le-of-lt, mul-comm, mul-assoc, mul-left-comm, mul-right-comm, mul-one, one-mul, pow-suc, mul-pos, mul-le-mul-right, mul-le-mul-left, mul-lt-mul-of-pos-right, le-of-mul-le-mul-right, eq-of-mul-eq-mul-right, div-add-mod', mod-lt, le-div-iff-mul-le, div-lt-iff-lt-mul}
+use native.Mathlib.Nat.{le-trans, le-of-eq, le-of-lt, lt-of-le-of-lt, lt-of-lt-of-le, lt-of-not-le, not-le-of-lt, mul-comm, mul-assoc, mul-left-comm, mul-right-comm, mul-one, pow-suc, mul-pos, mul-le-mul-right, mul-le-mul-left, mul-lt-mul-of-pos-right, le-of-mul-le-mul-right, eq-of-mul-eq-mul-right, div-add-mod', mod-lt, le-div-iff-mul-le, div-lt-iff-lt-mul}
 use native.Mathlib.Omega.{arith}
 use lib.Dec.{T, isLe, isEq, leb→le, nleb→lt, eqb→eq, lit≤, lit<}
 use lib.IntN.{pos, negsuc}
 use lib.Pow.{pow-add, pow-pos, pow-mono}
-use lib.Ieee.{Float, nan, inf, fin, up, down, binary64, nearest, size, round, div, ofInt, ofBits}
+use lib.Ieee.{Float, nan, inf, fin, up, down, binary64, nearest, size, div, ofInt, ofBits}
 use lib.Ieee.Nearest.{closest}
 use lib.Ieee.Fits.{down-pos}
 use lib.Ieee.Digits.{size-lt, size-le, back}
@@ -15,8 +15,11 @@ use lib.Ieee.Order.{drop, kept}
 use lib.Ieee.Exact.{HasValue, round-exact}
 use lib.Ieee.Scale.{grid, overflow, round-val, round-same}
 use Rattle.paper.specs.Feet.{footUnits, nearestTo}
-use Rattle.paper.specs.Distance.{quarter, sixth}
-use Rattle.paper.proofs.PaperLaws.{times-most}
+use Rattle.paper.specs.Distance.{Apart, quarter, sixth}
+
+-- a third of a foot
+abbrev third : ℕ
+third = 2 * sixth
 
 -- the nearest whole number to a / b is within a half of it
 record Half (z a b : ℕ) : Type 0 where
@@ -37,11 +40,6 @@ closest-half a b B =
     subst (λ (x : ℕ). Half (closest a b) x b) (div-add-mod' a b)
     (half (a / b) (a % b) b (compare (a % b * 2) b) (leb→le (a % b * 2) b) (nleb→lt (a % b * 2) b) (eqb→eq (a % b * 2) b) (mod-lt a B))
 
--- b × n and m differ by w at most
-pub record Within (m b n w : ℕ) : Type 0 where
-  pub not-above : b * n ≤ m + w
-  pub not-below : m ≤ b * n + w
-
 -- a common factor of both can be left out
 half-lowered : (z n b h : ℕ) → 0 < h → Half z (n * h) (b * h) → Half z n b
 half-lowered z n b h H c =
@@ -50,24 +48,24 @@ half-lowered z n b h H c =
     let below = c .not-below in
     record { not-above = le-of-mul-le-mul-right {k = h} (omega arith) H; not-below = le-of-mul-le-mul-right {k = h} (omega arith) H }
 
--- Of m over 4 × q × j, z is the nearest whole number: then z × j is within half of j of m over 4 × q. k is 2 × j at least.
-within-half : (z m q j k : ℕ) → 2 * j ≤ k → Half z m (4 * q * j) → Within m (4 * q) (z * j) (q * k)
-within-half z m q j k h c =
-    let e : z * (4 * q * j) ≡ 4 * q * (z * j) = mul-left-comm z (4 * q) j in
-    let f : q * (2 * j) ≤ q * k = mul-le-mul-left q h in
+-- Of p × 2 ^ 54 over 288 × j, z is the nearest whole number: then z × j is within half of j of p × 2 ^ 54 over 288. k is 2 × j at least.
+within-half : (z p j k : ℕ) → 2 * j ≤ k → Half z (p * 2 ^ 54) (footUnits * j) → Apart p (z * j) (quarter * k)
+within-half z p j k h c =
+    let e : z * (footUnits * j) ≡ footUnits * (z * j) = mul-left-comm z footUnits j in
     let above = c .not-above in
     let below = c .not-below in
     record { not-above = omega arith; not-below = omega arith }
 
--- Where m is a whole number of thirds of that, it is within a third.
-within-third : (z c u : ℕ) → 0 < u → Half z (c * u) (3 * u) → Within (c * u) (3 * u) z u
-within-third z c u H h =
-    let n : Half z c 3 = half-lowered z c 3 u H h in
+-- Where p × 2 ^ 54 is a whole number of thirds of 288 × j, it is within a third.
+within-third : (z p c j k : ℕ) → 0 < j → 2 * j ≤ k → p * 2 ^ 54 ≡ c * (third * j) → Half z (p * 2 ^ 54) (footUnits * j) → Apart p (z * j) (sixth * k)
+within-third z p c j k J h e s =
+    let u = third * j in
+    let n : Half z c 3 = half-lowered z c 3 u (mul-pos (lit< tt) J) (subst (λ (x : ℕ). Half z x (3 * u)) e (subst (λ (x : ℕ). Half z (p * 2 ^ 54) x) (mul-assoc 3 third j) s)) in
     let above : 3 * z ≤ c + 1 = (let x = n .not-above in omega arith) in
     let below : c ≤ 3 * z + 1 = (let x = n .not-below in omega arith) in
     let above-all : 3 * z * u ≤ (c + 1) * u = mul-le-mul-right u above in
     let below-all : c * u ≤ (3 * z + 1) * u = mul-le-mul-right u below in
-    let e : 3 * u * z ≡ 3 * z * u = mul-right-comm 3 u z in
+    let same : 3 * z * u ≡ footUnits * (z * j) = ap (λ (x : ℕ). x * u) (mul-comm 3 z) ∙ mul-assoc z 3 u ∙ ap (λ (x : ℕ). z * x) (sym (mul-assoc 3 third j)) ∙ mul-left-comm z footUnits j in
     record { not-above = omega arith; not-below = omega arith }
 
 -- the same value over another denominator
@@ -93,41 +91,35 @@ bounded z u d n m D h k c =
     let a = c .not-above in
     omega arith
 
--- A double's least unit is 2 ^ -1074. In these units the fraction p / (4 × q) is n / d, and its double is z × 2 ^ a: a digits are dropped. Powers of two stand
+-- A double's least unit is 2 ^ -1074. In these units the fraction p / 288 is n / 288, and its double is z × 2 ^ a: a digits are dropped. Powers of two stand
 -- behind variables in the laws above, since their numerals are too long to reckon with.
-module _ (p q : ℕ) (Q : 0 < q) where
-  abbrev d : ℕ
-  d = 4 * q
-
-  D : 0 < d
-  D = omega (arith, Q)
-
+module _ (p : ℕ) where
   abbrev n : ℕ
   n = p * 2 ^ 1074
 
   abbrev a : ℕ
-  a = drop 53 n d
+  a = drop 53 n footUnits
 
   abbrev z : ℕ
-  z = kept 53 n d
+  z = kept 53 n footUnits
 
   -- fewer than 2 ^ k quarters drop k + 1019 digits at most; one quarter at least drops 1020 at least, so that nothing is left below 2 ^ -54
-  dropped-most : (k : ℕ) → p < q * 2 ^ k → a ≤ k + 1019
+  dropped-most : (k : ℕ) → p < quarter * 2 ^ k → a ≤ k + 1019
   dropped-most k l =
-      let under : n / d < 2 ^ (k + 1072) = div-lt-iff-lt-mul D .1 (subst (λ (x : ℕ). n < x * d) (sym (pow-add 2 k 1072)) (times-less p d (2 ^ k) (2 ^ 1072) (pow-pos 1072) (omega (arith, l)))) in
-      let few : size (n / d) ≤ k + 1072 = size-le (n / d) (k + 1072) under in
+      let under : n / footUnits < 2 ^ (k + 1072) = div-lt-iff-lt-mul (lit< tt) .1 (subst (λ (x : ℕ). n < x * footUnits) (sym (pow-add 2 k 1072)) (times-less p footUnits (2 ^ k) (2 ^ 1072) (pow-pos 1072) (omega (arith, l)))) in
+      let few : size (n / footUnits) ≤ k + 1072 = size-le (n / footUnits) (k + 1072) under in
       omega arith
 
-  dropped-least : q ≤ p → 1020 ≤ a
+  dropped-least : quarter ≤ p → 1020 ≤ a
   dropped-least l =
-      let over : 2 ^ 1072 ≤ n / d = le-div-iff-mul-le D .1 (le-trans (mul-le-mul-left (2 ^ 1072) (mul-le-mul-left 4 l)) (le-of-eq (sym (mul-assoc (2 ^ 1072) 4 p) ∙ mul-comm (2 ^ 1074) p))) in
-      let many : 1072 < size (n / d) = lt-of-not-le (λ (g : size (n / d) ≤ 1072). not-le-of-lt (lt-of-lt-of-le (size-lt (n / d)) (pow-mono g)) over) in
+      let over : 2 ^ 1072 ≤ n / footUnits = le-div-iff-mul-le (lit< tt) .1 (le-trans (mul-le-mul-left (2 ^ 1072) (mul-le-mul-left 4 l)) (le-of-eq (sym (mul-assoc (2 ^ 1072) 4 p) ∙ mul-comm (2 ^ 1074) p))) in
+      let many : 1072 < size (n / footUnits) = lt-of-not-le (λ (g : size (n / footUnits) ≤ 1072). not-le-of-lt (lt-of-lt-of-le (size-lt (n / footUnits)) (pow-mono g)) over) in
       omega arith
 
-  kept-half : Half z n (d * 2 ^ a)
-  kept-half = closest-half n (d * 2 ^ a) (mul-pos D (pow-pos a))
+  kept-half : Half z n (footUnits * 2 ^ a)
+  kept-half = closest-half n (footUnits * 2 ^ a) (mul-pos (lit< tt) (pow-pos a))
 
-  module _ (l : q ≤ p) where
+  module _ (l : quarter ≤ p) where
     -- the unit of the last digit, and the double, in units of 2 ^ -54
     abbrev unit : ℕ
     unit = 2 ^ (a - 1020)
@@ -138,58 +130,43 @@ module _ (p q : ℕ) (Q : 0 < q) where
     unit-of : 2 ^ a ≡ unit * 2 ^ 1020
     unit-of = ap (λ (c : ℕ). 2 ^ c) (sym (back a 1020 (dropped-least l))) ∙ pow-add 2 (a - 1020) 1020
 
-    unit-most : (k : ℕ) → p < q * 2 ^ k → 2 * unit ≤ 2 ^ k
+    unit-most : (k : ℕ) → p < quarter * 2 ^ k → 2 * unit ≤ 2 ^ k
     unit-most k few =
         let least = dropped-least l in
         let most = dropped-most k few in
         le-trans (le-of-eq (mul-comm 2 unit ∙ sym (pow-add 2 (a - 1020) 1))) (pow-mono (omega arith))
 
-    shown-half : Half z (p * 2 ^ 54) (d * unit)
+    shown-half : Half z (p * 2 ^ 54) (footUnits * unit)
     shown-half =
-        half-lowered z (p * 2 ^ 54) (d * unit) (2 ^ 1020) (pow-pos 1020)
-        (subst (λ (x : ℕ). Half z x (d * unit * 2 ^ 1020)) (sym (mul-assoc p (2 ^ 54) (2 ^ 1020)))
-        (subst (λ (x : ℕ). Half z n x) (ap (λ (c : ℕ). d * c) unit-of ∙ sym (mul-assoc d unit (2 ^ 1020))) kept-half))
+        half-lowered z (p * 2 ^ 54) (footUnits * unit) (2 ^ 1020) (pow-pos 1020)
+        (subst (λ (x : ℕ). Half z x (footUnits * unit * 2 ^ 1020)) (sym (mul-assoc p (2 ^ 54) (2 ^ 1020)))
+        (subst (λ (x : ℕ). Half z n x) (ap (λ (c : ℕ). footUnits * c) unit-of ∙ sym (mul-assoc footUnits unit (2 ^ 1020))) kept-half))
 
-    pub shown-within : (k : ℕ) → p < q * 2 ^ k → Within (p * 2 ^ 54) d shown (q * 2 ^ k)
-    shown-within k few = within-half z (p * 2 ^ 54) q unit (2 ^ k) (unit-most k few) shown-half
+    pub half-apart : (k : ℕ) → p < quarter * 2 ^ k → Apart p shown (quarter * 2 ^ k)
+    half-apart k few = within-half z p unit (2 ^ k) (unit-most k few) shown-half
 
-    pub shown-is : p < 2 ^ 53 → d < 2 ^ 53 → HasValue (round binary64 false p d) false shown (2 ^ 54)
-    shown-is fit few =
-        let low : 2 ^ a ≤ 2 ^ 1072 = pow-mono (dropped-most 53 (lt-of-lt-of-le fit (le-trans (le-of-eq (sym (one-mul (2 ^ 53)))) (mul-le-mul-right (2 ^ 53) Q)))) in
-        let all : d * 2 ^ a ≤ 2 ^ 1127 = le-trans (times-most (le-of-lt few) low) (lit≤ tt) in
-        let fine : grid binary64 p d < overflow binary64 = lt-of-le-of-lt (bounded z (2 ^ a) d n (2 ^ 1127) D (mul-le-mul-right (2 ^ 1074) (le-of-lt fit)) all kept-half) (lit< tt) in
-        lowered (round binary64 false p d) (z * 2 ^ a) shown (2 ^ 54) (2 ^ 1020) (pow-pos 1020) (ap (λ (c : ℕ). z * c) unit-of ∙ sym (mul-assoc z unit (2 ^ 1020))) (round-val binary64 p d fine)
+    module _ (fit : p < 2 ^ 53) where
+      pub shown-is : HasValue (nearestTo p footUnits) false shown (2 ^ 54)
+      shown-is =
+          let low : 2 ^ a ≤ 2 ^ 1072 = pow-mono (dropped-most 53 (lt-of-lt-of-le fit (lit≤ tt))) in
+          let all : footUnits * 2 ^ a ≤ 2 ^ 1127 = le-trans (mul-le-mul-left footUnits low) (lit≤ tt) in
+          let fine : grid binary64 p footUnits < overflow binary64 = lt-of-le-of-lt (bounded z (2 ^ a) footUnits n (2 ^ 1127) (lit< tt) (mul-le-mul-right (2 ^ 1074) (le-of-lt fit)) all kept-half) (lit< tt) in
+          lowered (nearestTo p footUnits) (z * 2 ^ a) shown (2 ^ 54) (2 ^ 1020) (pow-pos 1020) (ap (λ (c : ℕ). z * c) unit-of ∙ sym (mul-assoc z unit (2 ^ 1020))) (round-val binary64 p footUnits fine)
 
--- Of feet where 3 divides p: the double is within a third of the last digit's unit.
-abbrev third : ℕ
-third = 2 * sixth
+      -- Where 3 divides p, p × 2 ^ 54 is a whole number of thirds of 288 units, of which the last digit has no more than 2 ^ 49.
+      few-digits : a - 1020 ≤ 49
+      few-digits = let most = dropped-most 50 (omega (arith, fit)) in omega arith
 
-module _ (r : ℕ) (l : quarter ≤ 3 * r) (fit : 3 * r < 2 ^ 53) where
-  abbrev j : ℕ
-  j = drop 53 (3 * r * 2 ^ 1074) footUnits - 1020
+      thirds : (r : ℕ) → p ≡ 3 * r → p * 2 ^ 54 ≡ r * 2 ^ (49 - (a - 1020)) * (third * unit)
+      thirds r h =
+          let rest = 49 - (a - 1020) in
+          let e : 2 ^ 49 ≡ 2 ^ rest * unit = ap (λ (c : ℕ). 2 ^ c) (sym (back 49 (a - 1020) few-digits)) ∙ pow-add 2 rest (a - 1020) in
+          ap (λ (x : ℕ). x * 2 ^ 54) h ∙ mul-right-comm 3 r (2 ^ 54) ∙ mul-comm (3 * 2 ^ 54) r ∙ ap (λ (c : ℕ). r * (third * c)) e
+          ∙ ap (λ (c : ℕ). r * c) (mul-left-comm third (2 ^ rest) unit) ∙ sym (mul-assoc r (2 ^ rest) (third * unit))
 
-  few-digits : j ≤ 49
-  few-digits = let most = dropped-most (3 * r) quarter (lit< tt) 50 (omega (arith, fit)) in omega arith
-
-  thirds : 3 * r * 2 ^ 54 ≡ r * 2 ^ (49 - j) * (third * 2 ^ j)
-  thirds =
-      let e : 2 ^ 49 ≡ 2 ^ (49 - j) * 2 ^ j = ap (λ (c : ℕ). 2 ^ c) (sym (back 49 j few-digits)) ∙ pow-add 2 (49 - j) j in
-      mul-right-comm 3 r (2 ^ 54) ∙ mul-comm (3 * 2 ^ 54) r ∙ ap (λ (c : ℕ). r * (third * c)) e ∙ ap (λ (c : ℕ). r * c) (mul-left-comm third (2 ^ (49 - j)) (2 ^ j))
-      ∙ sym (mul-assoc r (2 ^ (49 - j)) (third * 2 ^ j))
-
-  pub third-within : (k : ℕ) → 3 * r < quarter * 2 ^ k → Within (3 * r * 2 ^ 54) footUnits (shown (3 * r) quarter (lit< tt) l) (sixth * 2 ^ k)
-  third-within k few =
-      let z = kept 53 (3 * r * 2 ^ 1074) footUnits in
-      let u = third * 2 ^ j in
-      let c = r * 2 ^ (49 - j) in
-      let h : Half z (c * u) (3 * u) = subst (λ (x : ℕ). Half z (c * u) x) (mul-assoc 3 third (2 ^ j)) (subst (λ (x : ℕ). Half z x (footUnits * 2 ^ j)) thirds (shown-half (3 * r) quarter (lit< tt) l)) in
-      let w = within-third z c u (mul-pos (lit< tt) (pow-pos j)) h in
-      let above = w .not-above in
-      let below = w .not-below in
-      let same : 3 * u * z ≡ footUnits * (z * 2 ^ j) = ap (λ (x : ℕ). x * z) (sym (mul-assoc 3 third (2 ^ j))) ∙ mul-assoc footUnits (2 ^ j) z ∙ ap (λ (x : ℕ). footUnits * x) (mul-comm (2 ^ j) z) in
-      let most = unit-most (3 * r) quarter (lit< tt) l k few in
-      let all = thirds in
-      record { not-above = omega arith; not-below = omega arith }
+      pub third-apart : p % 3 ≡ 0 → (k : ℕ) → p < quarter * 2 ^ k → Apart p shown (sixth * 2 ^ k)
+      third-apart m k few =
+          within-third z p (p / 3 * 2 ^ (49 - (a - 1020))) unit (2 ^ k) (pow-pos (a - 1020)) (unit-most k few) (thirds (p / 3) (omega (arith, m))) shown-half
 
 -- A whole number below 2 ^ 53 is a double, and one division of it by 288.0, which is 9 × 2 ^ 5, is this rounding.
 whole : (p : ℕ) → p < 2 ^ 53 → HasValue (ofInt binary64 (pos p)) false p 1

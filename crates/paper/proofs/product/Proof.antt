@@ -1,19 +1,20 @@
 -- `product` multiplies what 16 lets pass, so that nothing overflows.
 use Prim.Native.Nat.{_*_, _≤_}
 use native.Mathlib.Omega.{arith}
+use native.Mathlib.Nat.{mul-le-mul}
 use Rattle.copies.specs.Copies.{mostCopies}
 use Rattle.counters.specs.Counters.{mostCount}
 use Rattle.paper.specs.Feet.{product}
-use Rattle.paper.proofs.PaperLaws.{mostProduct, passes, times-most}
+use Rattle.paper.proofs.PaperLaws.{mostProduct, passes}
 use borrow.Author.Needs.{needs}
 use Rattle.paper.proofs.product.Statement.{statement}
 use Rattle.paper.proofs.product.Tie as tie
 
 sheets : (c : tie.After-between) → c .between .result * c .before .args .copies ≤ mostCount * mostCopies
-sheets c = times-most {b = mostCount} (search needs) (passes _ _ (c .before .pre) .few)
+sheets c = mul-le-mul {n₂ = mostCount} (search needs) (passes _ _ (c .before .pre) .few)
 
 all : (c : tie.After-between) → c .between .result * c .before .args .copies * c .before .args .form ≤ mostProduct
-all c = times-most (sheets c) (passes _ _ (c .before .pre) .short)
+all c = mul-le-mul (sheets c) (passes _ _ (c .before .pre) .short)
 
 returns : tie.Need-returns
 unfolding product
