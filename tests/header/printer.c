@@ -18,15 +18,27 @@ unsigned faults(void)
     return fault_count;
 }
 
+bool accepted(uint64_t answer)
+{
+    return trestlepip_number(answer) == TRESTLEPIP_ACCEPTED;
+}
+
 void printer_start(struct printer *p, uint32_t form)
 {
-    uint64_t answer = trestlepip_start(form, 10, 10, 12, 15, STORES(p));
-    check(trestlepip_number(answer) == TRESTLEPIP_ACCEPTED, "not started on a form of length", form);
+    check(accepted(trestlepip_start(form, 10, 10, 12, 15, STORES(p))), "not started on a form of length", form);
 }
 
 uint64_t printer_send(struct printer *p, uint8_t command, const uint8_t *record, size_t length)
 {
     return trestlepip_command(command, record, length, NULL, 0, STORES(p));
+}
+
+void printer_load_codes(struct printer *p)
+{
+    uint8_t table[256];
+    for (unsigned i = 0; i < sizeof table; i++)
+        table[i] = (uint8_t)i;
+    check(accepted(printer_send(p, TRESTLEPIP_LOAD_TABLE, table, sizeof table)), "the table of codes", sizeof table);
 }
 
 void printer_complete(struct printer *p)
@@ -37,10 +49,8 @@ void printer_complete(struct printer *p)
 
 void printer_release(struct printer *p)
 {
-    bool counted = trestlepip_number(trestlepip_release(STORES(p))) == TRESTLEPIP_ACCEPTED
-        && trestlepip_number(trestlepip_transferred(STORES(p))) == TRESTLEPIP_ACCEPTED
-        && trestlepip_number(trestlepip_fused(STORES(p))) == TRESTLEPIP_ACCEPTED
-        && trestlepip_number(trestlepip_stacked(STORES(p))) == TRESTLEPIP_ACCEPTED;
+    bool counted = accepted(trestlepip_release(STORES(p))) && accepted(trestlepip_transferred(STORES(p))) && accepted(trestlepip_fused(STORES(p)))
+        && accepted(trestlepip_stacked(STORES(p)));
     check(counted, "not released and stacked: the page after", trestlepip_stacker_page(p->state));
 }
 

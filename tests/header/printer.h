@@ -16,10 +16,16 @@ struct printer {
 /* The lent buffers of a printer, in the order in which every call takes them. */
 #define STORES(p) (p)->state, sizeof (p)->state, (p)->page, sizeof (p)->page, (p)->legends, sizeof (p)->legends, (p)->tables, sizeof (p)->tables
 
+/* Whether an answer has number 0. */
+bool accepted(uint64_t answer);
+
 /* Starts a printer whose four modules are fitted. */
 void printer_start(struct printer *p, uint32_t form);
 
 uint64_t printer_send(struct printer *p, uint8_t command, const uint8_t *record, size_t length);
+
+/* Loads a table that gives each byte as its code, so that a record is codes. */
+void printer_load_codes(struct printer *p);
 
 /* Completes a page; one that is not started gets a blank line. */
 void printer_complete(struct printer *p);

@@ -23,11 +23,6 @@ static struct {
     bool accepted[256], causes[CAUSES + 1];
 } seen;
 
-static bool accepted(uint64_t answer)
-{
-    return trestlepip_number(answer) == TRESTLEPIP_ACCEPTED;
-}
-
 static bool begins(const char *text, const char *with)
 {
     return strncmp(text, with, strlen(with)) == 0;
