@@ -24,8 +24,11 @@ enum store { STATE, PAGE, LEGENDS, TABLES };
 /* The right size of each store. */
 extern const size_t store_size[STORES];
 
-/* The form lengths that Start and Feet take. */
+/* The form lengths that Start and Feet take, the longest last. */
 extern const unsigned forms[FORMS];
+
+/* The most copies that a page may have, and the most pages from one identifier to another. */
+enum { COPIES_MOST = 255, PAGES_MOST = 0xFFFF };
 
 /* Those from Command on judge what their stores hold, and those from Transferred on count pages. */
 enum call_kind {

@@ -13,11 +13,11 @@ static void add_refused(struct feet_counts *n, const struct call *c)
 
 static void add_told(struct feet_counts *n, const struct call *c, const uint8_t *feet)
 {
-    const uint64_t longest = UINT64_C(65535) * 255 * 288;
+    const uint64_t longest = (uint64_t)PAGES_MOST * COPIES_MOST * forms[FORMS - 1];
     n->told++;
     n->no_pages += pages_of_feet(c) == 0;
     n->over_wrap += c->final < c->initial;
-    n->most_pages += pages_of_feet(c) == 65535;
+    n->most_pages += pages_of_feet(c) == PAGES_MOST;
     n->above_32_bits += paper_length(c) > UINT32_MAX;
     n->longest += paper_length(c) == longest;
     n->rounded[rounding_of(c, feet)] += pages_of_feet(c) != 0;

@@ -11,7 +11,7 @@
 #include <stdio.h>
 #include <string.h>
 
-enum { PAST_MOST = 400, DEEDS_MOST = 400, LEFT_OUT_MOST = 8, TRIES_MOST = 100000, COPIES_MOST = 255, PERMILLE_WRONG_SIZE = 20, GAP_MOST = 3 };
+enum { PAST_MOST = 400, DEEDS_MOST = 400, LEFT_OUT_MOST = 8, TRIES_MOST = 100000, PERMILLE_WRONG_SIZE = 20, GAP_MOST = 3 };
 
 /* How the counters of a pair come to agree at the reset: by calls; set in the state's bytes, before the pasts too; or because nothing was counted. */
 enum way { BY_CALLS, BY_BYTES, UNCOUNTED, WAYS };

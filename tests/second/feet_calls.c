@@ -4,7 +4,7 @@
 /* Chances in a thousand that a call is one of these. */
 enum { PERMILLE_FEET = 25 };
 
-enum { COPIES_MOST = 255, NEAR = 300, HALF_INCH = 12 };
+enum { NEAR = 300, HALF_INCH = 12 };
 
 uint16_t pages_of_feet(const struct call *c)
 {
@@ -22,8 +22,8 @@ static unsigned pages_between_identifiers(struct generator *g)
     switch (WEIGHTED(g, 12, 12, 18, 10, 48)) {
     case 0: return 0;
     case 1: return 1;
-    case 2: return 0xFFFF;
-    case 3: return 0xFFFF - below(g, NEAR);
+    case 2: return PAGES_MOST;
+    case 3: return PAGES_MOST - below(g, NEAR);
     default: return below(g, 0x10000);
     }
 }

@@ -7,7 +7,7 @@
 __extension__ typedef __int128 wide;
 
 /* So many 24ths of an inch make a foot; any feet are N / 2^FRACTION_BITS, as they are 0 or at least 1/4. */
-enum { FOOT = 288, FRACTION_BITS = 54, COPIES_MOST = 255 };
+enum { FOOT = 288, FRACTION_BITS = 54 };
 
 /* A double has a digit 1 before these, which it does not store; its exponent is that of 1/4 at least, and below that of 2^24. */
 enum { STORED_DIGITS = 52, EXPONENT_OF_QUARTER = 1021, EXPONENT_OF_MOST = 1023 + 24 };
