@@ -16,9 +16,10 @@ use Rattle.numbers.specs.declared.Checked.{Checked}
 use Rattle.numbers.specs.declared.Checked.the-variants.{Sound, Faulty}
 use Rattle.numbers.specs.declared.Refusal.{Refusal}
 use Rattle.numbers.specs.declared.Refusal.the-variants.{Accepted, NotListed, BadRecord, LoadCheck, PageWaiting, PageStarted, NoPage, BadIndex, TooShort, BadStore, BadForm, TwoPages, NoneBetween, MostBetween, BadPaper}
+use Rattle.numbers.specs.declared.Row.{Row}
 use Rattle.numbers.specs.declared.SenseStep.{SenseStep}
 use Rattle.numbers.specs.declared.SenseStep.the-variants.{Keep, Anew, NoSense}
-use Rattle.numbers.specs.Numbers.{causeOf, rowOf, numberOf, isAccepted, checked, isSound}
+use Rattle.numbers.specs.Numbers.{rowWith, causeOf, rowOf, numberOf, isAccepted, checked, isSound}
 
 -- Numbers 0 to 13 and 16, and causes 1 to 10, in the order in which they are declared.
 pub every-number : map numberOf
@@ -49,8 +50,11 @@ isAnew Keep = false
 isAnew (Anew s) = true
 isAnew NoSense = false
 
+abbrev telling : ℕ → Bool
+telling k = listed (1 ∷ 3 ∷ 5 ∷ []) k
+
 abbrev pub tells : Refusal → Bool
-tells x = listed (1 ∷ 3 ∷ 5 ∷ []) (numberOf x)
+tells x = telling (numberOf x)
 
 -- every cause's number is small
 cause-most : (n : ℕ) (c : Cause) → causeOf n c .number ≤ 10
@@ -66,6 +70,13 @@ cause-most n NumberRecord = lit≤ tt
 cause-most n SegmentEnds = lit≤ tt
 cause-most n SegmentFields = lit≤ tt
 
+abbrev pub mostNumber : ℕ
+mostNumber = 16
+
+-- busy, the largest status of a row
+abbrev pub mostStatus : ℕ
+mostStatus = 0x10
+
 -- What is known of every row, for any two byte counts: one list of the refusals is enough for all of it.
 pub record Facts (n m : ℕ) (x : Refusal) : Type 0 where
   -- number 0 is that of Accepted alone
@@ -75,29 +86,46 @@ pub record Facts (n m : ℕ) (x : Refusal) : Type 0 where
   -- the others keep it, except a refused Start, which leaves none
   pub keeps : tells x ≡ false → eqb (numberOf x) 10 ≡ false → rowOf n x .sense ≡ Keep
   -- number, status and cause fit their fields of a packed answer
-  pub numberMost : numberOf x ≤ 16
-  pub statusMost : rowOf n x .status ≤ 16
+  pub numberMost : numberOf x ≤ mostNumber
+  pub statusMost : rowOf n x .status ≤ mostStatus
   pub causeMost : rowOf n x .cause ≤ 10
   -- the number is the same for all records, and so is the row, but for a load check, whose sense can show the record's byte count
   pub same : ((c : Cause) → x ≡ LoadCheck c → n ≡ m) → rowOf n x ≡ rowOf m x
+
+-- A refusal that tells nothing: it keeps the sense, names no cause, and has another number than 0, 1, 3 and 5, and another status than 0E.
+silent : (n m : ℕ) (x : Refusal) {k s : ℕ} → ((i : ℕ) → rowOf i x ≡ rowWith k s Keep)
+    → eqb k 0 ≡ false → telling k ≡ false → eqb s 0x0E ≡ false → k ≤ mostNumber → s ≤ mostStatus → Facts n m x
+unfolding isAccepted
+silent n m x row other quiet good few low =
+    let untold : false ≡ tells x = sym (ap (λ (r : Row). telling (r .number)) (row 0) ∙ quiet) in
+    record {
+      zero = λ e. absurd (false≢true (sym other ∙ ap (λ (r : Row). eqb (r .number) 0) (sym (row 0)) ∙ e));
+      anew = rw (row n) untold;
+      check = rw (row n) (good ∙ untold);
+      keeps = λ t f. rw (row n);
+      numberMost = rw (numberOf, row 0) few;
+      statusMost = rw (row n) low;
+      causeMost = rw (row n) (lit≤ tt);
+      same = λ h. row n ∙ sym (row m);
+    }
 
 pub facts : (n m : ℕ) (x : Refusal) → Facts n m x
 unfolding rowOf isAccepted
 facts n m Accepted = record { zero = λ e. refl; anew = refl; check = refl; keeps = λ t f. refl; numberMost = lit≤ tt; statusMost = lit≤ tt; causeMost = lit≤ tt; same = λ h. refl }
 facts n m NotListed = record { zero = λ e. absurd (false≢true e); anew = refl; check = refl; keeps = λ t f. absurd (true≢false t); numberMost = lit≤ tt; statusMost = lit≤ tt; causeMost = lit≤ tt; same = λ h. refl }
-facts n m BadRecord = record { zero = λ e. absurd (false≢true e); anew = refl; check = refl; keeps = λ t f. refl; numberMost = lit≤ tt; statusMost = lit≤ tt; causeMost = lit≤ tt; same = λ h. refl }
+facts n m BadRecord = silent n m BadRecord (λ i. refl) refl refl refl (lit≤ tt) (lit≤ tt)
 facts n m (LoadCheck c) = record { zero = λ e. absurd (false≢true e); anew = refl; check = refl; keeps = λ t f. absurd (true≢false t); numberMost = lit≤ tt; statusMost = lit≤ tt; causeMost = cause-most n c; same = λ h. rw (h c refl) }
-facts n m PageWaiting = record { zero = λ e. absurd (false≢true e); anew = refl; check = refl; keeps = λ t f. refl; numberMost = lit≤ tt; statusMost = lit≤ tt; causeMost = lit≤ tt; same = λ h. refl }
+facts n m PageWaiting = silent n m PageWaiting (λ i. refl) refl refl refl (lit≤ tt) (lit≤ tt)
 facts n m PageStarted = record { zero = λ e. absurd (false≢true e); anew = refl; check = refl; keeps = λ t f. absurd (true≢false t); numberMost = lit≤ tt; statusMost = lit≤ tt; causeMost = lit≤ tt; same = λ h. refl }
-facts n m NoPage = record { zero = λ e. absurd (false≢true e); anew = refl; check = refl; keeps = λ t f. refl; numberMost = lit≤ tt; statusMost = lit≤ tt; causeMost = lit≤ tt; same = λ h. refl }
-facts n m BadIndex = record { zero = λ e. absurd (false≢true e); anew = refl; check = refl; keeps = λ t f. refl; numberMost = lit≤ tt; statusMost = lit≤ tt; causeMost = lit≤ tt; same = λ h. refl }
-facts n m TooShort = record { zero = λ e. absurd (false≢true e); anew = refl; check = refl; keeps = λ t f. refl; numberMost = lit≤ tt; statusMost = lit≤ tt; causeMost = lit≤ tt; same = λ h. refl }
-facts n m BadStore = record { zero = λ e. absurd (false≢true e); anew = refl; check = refl; keeps = λ t f. refl; numberMost = lit≤ tt; statusMost = lit≤ tt; causeMost = lit≤ tt; same = λ h. refl }
+facts n m NoPage = silent n m NoPage (λ i. refl) refl refl refl (lit≤ tt) (lit≤ tt)
+facts n m BadIndex = silent n m BadIndex (λ i. refl) refl refl refl (lit≤ tt) (lit≤ tt)
+facts n m TooShort = silent n m TooShort (λ i. refl) refl refl refl (lit≤ tt) (lit≤ tt)
+facts n m BadStore = silent n m BadStore (λ i. refl) refl refl refl (lit≤ tt) (lit≤ tt)
 facts n m BadForm = record { zero = λ e. absurd (false≢true e); anew = refl; check = refl; keeps = λ t f. absurd (true≢false f); numberMost = lit≤ tt; statusMost = lit≤ tt; causeMost = lit≤ tt; same = λ h. refl }
-facts n m TwoPages = record { zero = λ e. absurd (false≢true e); anew = refl; check = refl; keeps = λ t f. refl; numberMost = lit≤ tt; statusMost = lit≤ tt; causeMost = lit≤ tt; same = λ h. refl }
-facts n m NoneBetween = record { zero = λ e. absurd (false≢true e); anew = refl; check = refl; keeps = λ t f. refl; numberMost = lit≤ tt; statusMost = lit≤ tt; causeMost = lit≤ tt; same = λ h. refl }
-facts n m MostBetween = record { zero = λ e. absurd (false≢true e); anew = refl; check = refl; keeps = λ t f. refl; numberMost = lit≤ tt; statusMost = lit≤ tt; causeMost = lit≤ tt; same = λ h. refl }
-facts n m BadPaper = record { zero = λ e. absurd (false≢true e); anew = refl; check = refl; keeps = λ t f. refl; numberMost = lit≤ tt; statusMost = lit≤ tt; causeMost = lit≤ tt; same = λ h. refl }
+facts n m TwoPages = silent n m TwoPages (λ i. refl) refl refl refl (lit≤ tt) (lit≤ tt)
+facts n m NoneBetween = silent n m NoneBetween (λ i. refl) refl refl refl (lit≤ tt) (lit≤ tt)
+facts n m MostBetween = silent n m MostBetween (λ i. refl) refl refl refl (lit≤ tt) (lit≤ tt)
+facts n m BadPaper = silent n m BadPaper (λ i. refl) refl refl refl (lit≤ tt) (lit≤ tt)
 
 pub accepted-is : (x : Refusal) → isAccepted x ≡ true → x ≡ Accepted
 accepted-is x = facts 0 0 x .zero
