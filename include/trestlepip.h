@@ -102,7 +102,7 @@
  *     {
  *         static const uint8_t two_copies[] = {2, 0}, calf[] = {0xC3, 0xC1, 0xD3, 0xC6};
  *         static const uint8_t total[] = {0xF4, 0xF1, 0x4B, 0xF5}, underscores[] = {0x6D, 0x6D, 0x6D, 0x6D};
- *         bool good = is_good(trestlepip_start(84, 10, 10, 10, 10, STORES))
+ *         bool good = is_good(trestlepip_start(84, 10, 10, 10, 10, TRESTLEPIP_NEW_WAY, STORES))
  *             && send_command(TRESTLEPIP_LOAD_OVERLAY_SEQUENCE, two_copies, sizeof two_copies)
  *             && send_command(TRESTLEPIP_WRITE_SPACE_1, calf, sizeof calf)
  *             && send_command(TRESTLEPIP_WRITE_NO_SPACE, total, sizeof total)    // stays on the line
@@ -121,7 +121,7 @@ extern "C" {
 #endif
 
 /* Sizes of the lent buffers; a buffer of another size is refused with TRESTLEPIP_BAD_STORE. docs/STATE.md has the layout of the state. */
-#define TRESTLEPIP_STATE_BYTES 192
+#define TRESTLEPIP_STATE_BYTES 193
 #define TRESTLEPIP_PAGE_BYTES 53856
 #define TRESTLEPIP_LEGEND_BYTES 8192
 #define TRESTLEPIP_TABLE_BYTES 1024
@@ -176,7 +176,7 @@ enum trestlepip_numbers {
     TRESTLEPIP_BAD_INDEX = 7,     /* there is no copy with this index */
     TRESTLEPIP_TOO_SHORT = 8,     /* the output or the reply buffer is too short */
     TRESTLEPIP_BAD_STORE = 9,     /* a lent buffer has the wrong size, or holds what no printer leaves there */
-    TRESTLEPIP_BAD_FORM = 10,     /* the form length or a pitch is not listed */
+    TRESTLEPIP_BAD_FORM = 10,     /* the form length, a pitch or the way of skipping is not listed */
     TRESTLEPIP_TWO_PAGES = 11,    /* one command would complete two pages */
     TRESTLEPIP_NONE_BETWEEN = 12, /* no page is between this station and the one before it */
     TRESTLEPIP_MOST_BETWEEN = 13, /* 32,767 pages are released and not yet stacked */
@@ -222,7 +222,7 @@ static inline unsigned trestlepip_mark(uint64_t answer) { return (unsigned)trest
 /* The cause of a load check: one of enum trestlepip_causes. */
 static inline unsigned trestlepip_cause(uint64_t answer) { return (unsigned)trestlepip_field(answer, 18, 6); }
 
-/* The lines that a space entered or a skip looked at. */
+/* The lines that a space entered or a skip looked at; 0 where an immediate skip stands (see Start). */
 static inline unsigned trestlepip_lines(uint64_t answer) { return (unsigned)trestlepip_field(answer, 24, 8); }
 
 /* The number of the composed copy, up to 509. */
@@ -305,6 +305,7 @@ enum trestlepip_places {
     TRESTLEPIP_FCB_MOST = 144,     /* bytes of the FCB, likewise */
     TRESTLEPIP_AT_FORM = 0, TRESTLEPIP_LAST_OF_FORM, /* high byte first */
     TRESTLEPIP_AT_PITCH, TRESTLEPIP_LAST_OF_PITCH = TRESTLEPIP_AT_PITCH + TRESTLEPIP_MODULES - 1,
+    TRESTLEPIP_AT_SKIP, /* the way of skipping */
     TRESTLEPIP_AT_BLOCK,
     TRESTLEPIP_AT_FCB_COUNT,
     TRESTLEPIP_AT_LOADED, TRESTLEPIP_LAST_OF_LOADED = TRESTLEPIP_AT_LOADED + TRESTLEPIP_SLOTS - 1,
@@ -327,12 +328,20 @@ enum trestlepip_places {
 };
 
 /*
- * Start: a form length in 24ths of an inch (72, 84, 96, 132, 144, 168, 192, 204, 240, 264, 288) and the pitches of four modules (0 if absent, else
- * 10, 12 or 15; module 0 must be fitted). What the buffers held before does not matter. Refusals, in this order: 9 for sizes, 10. A refused start
- * leaves the state all zeros, which every other call refuses (a state buffer of the wrong size is not written), and writes no other buffer.
+ * What Start is told of an immediate skip to the channel that the current line has already, with nothing written on that line. In the new way, which is
+ * the usual one, the form stands: the answer has 0 lines moved and no page. In the old way it goes on to the next line of that channel, as every other
+ * skip does; on a form with one such line that completes a page, which may be empty. A write and skip goes on in both.
+ */
+enum trestlepip_ways { TRESTLEPIP_NEW_WAY = 0, TRESTLEPIP_OLD_WAY = 1 };
+
+/*
+ * Start: a form length in 24ths of an inch (72, 84, 96, 132, 144, 168, 192, 204, 240, 264, 288), the pitches of four modules (0 if absent, else 10, 12
+ * or 15; module 0 must be fitted) and the way of skipping (enum trestlepip_ways). What the buffers held before does not matter. Refusals, in this
+ * order: 9 for sizes, 10. A refused start leaves the state all zeros, which every other call refuses (a state buffer of the wrong size is not written),
+ * and writes no other buffer.
  */
 uint64_t trestlepip_start(uint32_t form,
-        uint32_t pitch0, uint32_t pitch1, uint32_t pitch2, uint32_t pitch3,
+        uint32_t pitch0, uint32_t pitch1, uint32_t pitch2, uint32_t pitch3, uint32_t skip,
         uint8_t *state, size_t state_len, uint8_t *page, size_t page_len,
         uint8_t *legends, size_t legends_len, uint8_t *tables, size_t tables_len);
 
@@ -448,7 +457,7 @@ static inline int trestlepip_pitches_are_listed(const uint8_t *pitch)
 static inline int trestlepip_flags_agree(const uint8_t *state)
 {
     unsigned waiting = state[TRESTLEPIP_AT_WAITING];
-    return state[TRESTLEPIP_AT_BLOCK] <= 1
+    return state[TRESTLEPIP_AT_SKIP] <= TRESTLEPIP_OLD_WAY && state[TRESTLEPIP_AT_BLOCK] <= 1
         && state[TRESTLEPIP_AT_LOADED] == 1 && trestlepip_at_most(state + TRESTLEPIP_AT_LOADED, TRESTLEPIP_SLOTS, 1)
         && waiting <= 1 && state[TRESTLEPIP_AT_WRITTEN] <= 1 - waiting && state[TRESTLEPIP_AT_RESET_DUE] <= waiting;
 }

@@ -16,7 +16,7 @@ static inline const char *trestlepip_number_text(unsigned number)
     case 7: return "there is no copy with this index";
     case 8: return "the output or the reply buffer is too short";
     case 9: return "a lent buffer has the wrong size, or holds what no printer leaves there";
-    case 10: return "the form length or a pitch is not listed";
+    case 10: return "the form length, a pitch or the way of skipping is not listed";
     case 11: return "one command would complete two pages";
     case 12: return "no page is between this station and the one before it";
     case 13: return "32,767 pages are released and not yet stacked";
