@@ -6,7 +6,7 @@ ghost use lib.Dec.{ltb};
 ghost use lib.ListN.{length, take, drop};
 ghost use Rattle.numbers.specs.Sizes.{pageLines};
 ghost use Rattle.form.specs.Form.{channelAt, fcbSize};
-ghost use Rattle.movement.specs.Movement.{OnForm, round, upToFirst, has, spaced, skipped, moved};
+ghost use Rattle.movement.specs.Movement.{OnForm, round, upToFirst, has, spaced, skipped, moved, still};
 
 // What a command asks of the form: to space so many lines, or to skip to a channel.
 pub enum Motion {
@@ -34,6 +34,20 @@ impl Moved {
         twelve: false,
         missed: false,
     };
+
+    // No movement.
+    pub fn still(line: u8) -> Moved
+        ensures { λ r. ⌜ r ≡ still line ⌝ }
+    {
+        Moved {
+            lines: 0,
+            pages: 0,
+            line: line,
+            nine: false,
+            twelve: false,
+            missed: false,
+        }
+    }
 }
 
 fn channel_at(lines: &[u8], line: u8) -> u8

@@ -104,14 +104,7 @@ impl Printer {
     pub(crate) fn stand(self, causes: Causes) -> Step
         ensures { λ r. ⌜ ((m : Stores) → Did self m r m (λ k. done k causes (standing k))) ⌝ }
     {
-        let moved = Moved {
-            lines: 0,
-            pages: 0,
-            line: self.state.sheet.line,
-            nine: false,
-            twelve: false,
-            missed: false,
-        };
+        let moved = Moved::still(self.state.sheet.line);
         self.finish(causes, moved)
     }
 
