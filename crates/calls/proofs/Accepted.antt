@@ -1,20 +1,21 @@
 -- What is known of an accepted call: no test of its order held.
 use Prim.Native.Nat.{ℕ, _*_, _≤_}
 use mathlib.Core.Path.{_≡_, refl, ap}
-use mathlib.Core.Bool.{Bool, true, false}
+use mathlib.Core.Bool.{Bool, true, false, _&&_}
 use mathlib.Core.List.{List, [], _∷_}
 use native.Mathlib.Omega.{arith}
 use lib.Dec.{eqb}
 use lib.ListN.{length}
 use borrow.Author.Tests.{not-false, eqb-false, ltb-false}
 use Rattle.seq.specs.Words.{when, firstOr}
-use Rattle.seq.proofs.Laws.{or-left, or-right, passed}
+use Rattle.seq.proofs.Laws.{and-left, and-right, or-left, or-right, passed}
 use Rattle.numbers.specs.Sizes.{lineBytes, legendSize}
 use Rattle.numbers.specs.declared.Cause.{Cause}
 use Rattle.numbers.specs.declared.Checked.the-variants.{Sound}
 use Rattle.numbers.specs.declared.Refusal.the-variants.{Accepted, NotListed, BadRecord, LoadCheck, PageWaiting, PageStarted, TooShort, BadStore, TwoPages}
 use Rattle.numbers.specs.Numbers.{rowOf, numberOf, isAccepted, checked}
 use Rattle.numbers.proofs.Laws.{accepted-is, not-accepted, passed-check, goes-on}
+use Rattle.form.specs.Form.{formOk}
 use Rattle.copies.specs.Copies.{copyCount}
 use Rattle.counters.specs.declared.Tally.{Tally}
 use Rattle.counters.specs.Counters.{noneBetween, mostBetween}
@@ -25,7 +26,7 @@ use Rattle.calls.specs.Core.{Stores, Core, P}
 use Rattle.calls.specs.Commands.{Issued, decode}
 use Rattle.calls.specs.Contents.{coreOk}
 use Rattle.calls.specs.Calls.{command, release, tally, badRecord, checkOf, commandTests, composeTests, refusalOf}
-use Rattle.calls.specs.Start.{Asked, startRefusal, startWorld, startOutcome}
+use Rattle.calls.specs.Start.{Asked, skipOk, startRefusal, startWorld, startOutcome}
 use Rattle.calls.specs.Premises.{Allowed, Composable, Startable}
 
 pub allowed-by : (k : Core) (c : Command) (i : Issued) → firstOr Accepted (commandTests k c i) ≡ Accepted → Allowed k c i
@@ -99,7 +100,9 @@ unfolding startRefusal isAccepted rowOf
 startable a m e =
     let h₁ = passed _ _ (not-accepted refl) (accepted-is _ e) in
     let h₂ = passed _ _ (not-accepted refl) (h₁ .1) in
-    record { sizes = not-false _ (h₁ .0); form = not-false _ (h₂ .0) }
+    let form = formOk (a .length) (a .pitches) in
+    let ok = not-false (form && skipOk (a .skip)) (h₂ .0) in
+    record { sizes = not-false _ (h₁ .0); form = and-left form (skipOk (a .skip)) ok; skip = and-right form (skipOk (a .skip)) ok }
 
 -- Such a Start leaves the same printer, whatever the stores held before it.
 pub started-world : (a : Asked) (m : Stores) → isAccepted (startRefusal a m) ≡ true → startOutcome a m .world ≡ startWorld a

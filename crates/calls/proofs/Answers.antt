@@ -28,7 +28,7 @@ use Rattle.calls.specs.declared.Command.the-variants.{Write, Move, Contr
 use Rattle.calls.specs.Core.{Core, World, started}
 use Rattle.calls.specs.Commands.{Issued, decode, controlTraits, traitsOf, isUnlisted}
 use Rattle.calls.specs.Reset.{blankSheet, resetState, reset, senseBytes}
-use Rattle.calls.specs.Effects.{Effect, nothing, refused, done, movedSheet, moveOf, standing, movedCore, writtenSheet, written, writeCauses, loaded, atLine1, loadCauses, quietly, doMove, doWrite, doLoad, completing, doControl, doCommand}
+use Rattle.calls.specs.Effects.{Effect, nothing, refused, done, movedSheet, moveOf, atOnce, standing, movedCore, writtenSheet, written, writeCauses, loaded, atLine1, loadCauses, quietly, doMove, doWrite, doLoad, completing, doControl, doCommand}
 use Rattle.calls.specs.Calls.{Call, command, compose, release, tally, movement, refusalOf, doCompose, doRelease, emptied, released, tallying, doTally, perform, effect, step}
 use Rattle.calls.specs.Premises.{Free}
 use Rattle.calls.proofs.Accepted.{allowed}
@@ -60,7 +60,7 @@ Waits k m k′ = Free k → k′ .state .sheet .waiting ≡ not (eqb (m .pages) 
 -- The causes of a data check that a listed command has.
 abbrev pub causesOf : Core → Command → Issued → Causes
 causesOf k (Write m) i = orUnmatched (writeCauses k (i .sent)) (moveOf (k .state) m .missed)
-causesOf k (Move m) i = orUnmatched noCauses (moveOf (k .state) m .missed)
+causesOf k (Move m) i = orUnmatched noCauses (atOnce (k .state) m .missed)
 causesOf k (Controls c) i = noCauses
 causesOf k (Loads l) i = loadCauses k l (i .sent)
 causesOf k Unlisted i = noCauses
@@ -102,7 +102,7 @@ shape-completing k k′ due false c i e q f s = sets k′ q (λ w. rw (e, s) (f 
 pub shape : (k : Core) (c : Command) (i : Issued) → isUnlisted c ≡ false → Shape k c i (doCommand k c i)
 unfolding doCommand doControl doWrite doMove doLoad movement traitsOf controlTraits still written writtenSheet reset resetState blankSheet
 shape k (Write m) i e = sets _ refl (moved-waits false _ (moveOf (k .state) m)) refl
-shape k (Move m) i e = sets _ refl (moved-waits false _ (moveOf (k .state) m)) refl
+shape k (Move m) i e = sets _ refl (moved-waits false _ (atOnce (k .state) m)) refl
 shape k (Controls NoOp) i e = quiet Keep nothing refl refl refl
 shape k (Controls SenseIo) i e = quiet _ _ refl refl refl
 shape k (Controls Initialize) i e = shape-completing k (reset k) true (started (k .state .sheet)) Initialize i refl refl (λ w. refl) refl

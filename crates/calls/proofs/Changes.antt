@@ -27,14 +27,14 @@ use Rattle.calls.specs.Core.{Core, World, withState, withBlocked, withSl
 use Rattle.calls.specs.Commands.{Issued, codes, lookUp, skips, decode, controlTraits, traitsOf}
 use Rattle.calls.specs.Contents.{coreOk}
 use Rattle.calls.specs.Reset.{blankSheet, noCells, reset}
-use Rattle.calls.specs.Effects.{Effect, refused, done, movedCore, moveOf, doMove, writtenSheet, written, doWrite, loadCheck, slotSelected, loaded, doLoad, completing, doControl, doCommand}
+use Rattle.calls.specs.Effects.{Effect, refused, done, movedCore, moveOf, atOnce, doMove, writtenSheet, written, doWrite, loadCheck, slotSelected, loaded, doLoad, completing, doControl, doCommand}
 use Rattle.calls.specs.Calls.{Call, command, compose, release, tally, checkOf, refusalOf, doCompose, pageCounted, emptied, released, doRelease, tallying, doTally, perform, effect, step}
 use Rattle.calls.specs.Premises.{Good, Allowed, Free}
 use Rattle.calls.specs.Lists.{worldAfter}
 use Rattle.calls.proofs.Accepted.{allowed, release-room, tally-room}
 use Rattle.calls.proofs.Refused.{bad-store, by-outcome}
 use Rattle.calls.proofs.Answers.{was-free}
-use Rattle.calls.proofs.Good.{good, good-write, good-count, good-empty, move-went}
+use Rattle.calls.proofs.Good.{good, good-write, good-count, good-empty, move-went, at-once-went}
 
 -- Calls after calls.
 pub after-append : (w : World) (xs ys : List Call) → worldAfter w (xs ++ ys) ≡ worldAfter (worldAfter w xs) ys
@@ -113,7 +113,7 @@ module _ {Q : Core → Type 0} (q : Survives Q) where
       let f = was-free refl (a .free) in
       let fits = write-fits a in
       q .move (moveOf (k .state) m) (good-write (i .sent) g f fits) f (move-went m g) (q .write (i .sent) g f fits h)
-  by-command k (Move m) i s a g h = q .move (moveOf (k .state) m) g (was-free refl (a .free)) (move-went m g) h
+  by-command k (Move m) i s a g h = q .move (atOnce (k .state) m) g (was-free refl (a .free)) (at-once-went m g) h
   by-command k (Controls NoOp) i s a g h = h
   by-command k (Controls SenseIo) i s a g h = h
   by-command k (Controls Initialize) i s a g h =

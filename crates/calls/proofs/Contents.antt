@@ -18,14 +18,17 @@ use Rattle.calls.specs.Core.{Stores, Core, sizesOk, withState, withPage,
 use Rattle.calls.specs.Commands.{codes, lookUp, decode, isUnlisted}
 use Rattle.calls.specs.Contents.{lineOk, rangesOk, dueOk, writtenOk, clauses, coreOk}
 use Rattle.calls.specs.Reset.{blankSheet, noCells, resetState, resetStores, fresh}
-use Rattle.calls.specs.Start.{asked, startKept, startRefusal}
+use Rattle.calls.specs.Start.{asked, startKept, skipOk, startRefusal}
 
 -- A printer just started, and the same with one part replaced.
 abbrev with-form : ℕ → List ℕ → Core
-with-form len ps = fresh (record { length = len; pitches = ps }) startKept
+with-form len ps = fresh (record { length = len; pitches = ps; old = false }) startKept
+
+abbrev mixed : List ℕ
+mixed = 10 ∷ 0 ∷ 12 ∷ 15 ∷ []
 
 abbrev k84 : Core
-k84 = with-form 84 (10 ∷ 0 ∷ 12 ∷ 15 ∷ [])
+k84 = with-form 84 mixed
 
 abbrev with-sheet : ℕ → Bool → Bool → Bool → Core
 with-sheet l x w d = withState k84 (withSheet (k84 .state) (record { line = l; written = x; waiting = w; due = d }))
@@ -127,17 +130,20 @@ ones a b c = record { page = replicate a 1; legends = replicate b 1; tables = re
 abbrev right : Stores
 right = ones pageSize legendSize tableSize
 
-abbrev starts : ℕ → List ℕ → Stores → ℕ
-starts len ps m = numberOf (startRefusal (asked len ps) m)
+abbrev starts : ℕ → List ℕ → ℕ → Stores → ℕ
+starts len ps skip m = numberOf (startRefusal (asked len ps skip) m)
 
 pub start-table :
-    (starts 84 (10 ∷ 0 ∷ 12 ∷ 15 ∷ []) right ∷ starts 288 (15 ∷ 0 ∷ 0 ∷ 0 ∷ []) right
-    ∷ starts 85 (10 ∷ 0 ∷ 12 ∷ 15 ∷ []) right ∷ starts 65620 (10 ∷ 0 ∷ 12 ∷ 15 ∷ []) right
-    ∷ starts 84 (0 ∷ 10 ∷ 12 ∷ 15 ∷ []) right ∷ starts 84 (10 ∷ 11 ∷ 12 ∷ 15 ∷ []) right ∷ starts 84 (10 ∷ 0 ∷ 12 ∷ 271 ∷ []) right
-    ∷ starts 85 (10 ∷ 0 ∷ 12 ∷ 15 ∷ []) (ones (pageSize - 1) legendSize tableSize) ∷ starts 84 (10 ∷ 0 ∷ 12 ∷ 15 ∷ []) (ones pageSize (legendSize + 1) tableSize) ∷ starts 84 (10 ∷ 0 ∷ 12 ∷ 15 ∷ []) (ones pageSize legendSize 0)
+    (starts 84 mixed 0 right ∷ starts 84 mixed 1 right ∷ starts 288 (15 ∷ 0 ∷ 0 ∷ 0 ∷ []) 0 right
+    -- a form length, a pitch, a way of skipping
+    ∷ starts 85 mixed 0 right ∷ starts 65620 mixed 0 right
+    ∷ starts 84 (0 ∷ 10 ∷ 12 ∷ 15 ∷ []) 0 right ∷ starts 84 (10 ∷ 11 ∷ 12 ∷ 15 ∷ []) 0 right ∷ starts 84 (10 ∷ 0 ∷ 12 ∷ 271 ∷ []) 0 right
+    ∷ starts 84 mixed 2 right ∷ starts 84 mixed 256 right
+    -- sizes come first
+    ∷ starts 85 mixed 0 (ones (pageSize - 1) legendSize tableSize) ∷ starts 84 mixed 2 (ones pageSize (legendSize + 1) tableSize) ∷ starts 84 mixed 0 (ones pageSize legendSize 0)
     ∷ [])
-    ≡ 0 ∷ 0 ∷ 10 ∷ 10 ∷ 10 ∷ 10 ∷ 10 ∷ 9 ∷ 9 ∷ 9 ∷ []
-unfolding startRefusal when firstOr every sizesOk formLengths pitchesListed pitchesOk formOk rowOf
+    ≡ 0 ∷ 0 ∷ 0 ∷ 10 ∷ 10 ∷ 10 ∷ 10 ∷ 10 ∷ 10 ∷ 10 ∷ 9 ∷ 9 ∷ 9 ∷ []
+unfolding startRefusal when firstOr every sizesOk formLengths pitchesListed pitchesOk formOk skipOk rowOf
 start-table = refl
 
 -- The command bytes: 46, and no others.

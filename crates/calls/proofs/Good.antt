@@ -20,7 +20,7 @@ use Rattle.form.specs.Form.{formLengths, fcbCheck, layoutOf, printable, startFc
 use Rattle.form.proofs.FormLaws.{form-listed, fcb-fits, few-lines, some-line, start-sound}
 use Rattle.movement.specs.declared.Motion.{Motion}
 use Rattle.movement.specs.declared.Moved.{Moved}
-use Rattle.movement.specs.Movement.{toTop}
+use Rattle.movement.specs.Movement.{still, toTop}
 use Rattle.movement.proofs.MovementLaws.{down, over, Went, stays, goes, went}
 use Rattle.line.specs.declared.Slots.{Slots}
 use Rattle.line.specs.Cells.{marksOk}
@@ -44,10 +44,11 @@ use Rattle.calls.specs.declared.Load.the-variants.{Fcb, TranslateTable, 
 use Rattle.calls.specs.Core.{Stores, Core, sizesOk, linesNow, P, laidOut, withState, withPage, withTables, withBlocked, withSlots, withCopies, withSheet, withCounters}
 use Rattle.calls.specs.Contents.{lineOk, rangesOk, dueOk, writtenOk, coreOk}
 use Rattle.calls.specs.Reset.{blankSheet, noCells, Kept, keptOf, resetState, resetStores, reset, fresh}
-use Rattle.calls.specs.Effects.{movedSheet, movedCore, moveOf, writtenSheet, written, loadCheck, atLine1, slotLoaded, slotSelected, loaded}
+use Rattle.calls.specs.Effects.{movedSheet, movedCore, moveOf, atOnce, writtenSheet, written, loadCheck, atLine1, slotLoaded, slotSelected, loaded}
 use Rattle.calls.specs.Calls.{pageCounted, emptied, tallying}
 use Rattle.calls.specs.Start.{Asked, fixedBy, startRefusal, startKept, startWorld}
 use Rattle.calls.specs.Premises.{Sizes, FormsGood, CopiesGood, SheetGood, FixedGood, Good, Free}
+use Rattle.calls.proofs.Standing.{at-once-has}
 use Rattle.calls.proofs.Accepted.{startable}
 
 -- They are just the contents that get no 9.
@@ -182,6 +183,11 @@ good-write {k} r g w h =
 pub move-went : {k : Core} (m : Motion) → Good k → Went (P (k .state)) (k .state .sheet .line) (moveOf (k .state) m)
 unfolding moveOf
 move-went {k} m g = let s = g .sheet in went (linesNow (k .state)) (k .state .sheet .line) (s .high) (omega (arith, s .low, s .high)) m
+
+-- T-05: whether it stands or moves.
+pub at-once-went : {k : Core} (m : Motion) → Good k → Went (P (k .state)) (k .state .sheet .line) (atOnce (k .state) m)
+unfolding still
+at-once-went {k} m g = at-once-has (Went (P (k .state)) (k .state .sheet .line)) (k .state) m (stays refl refl refl) (move-went m g)
 
 went-on : {p c : ℕ} {m : Moved} → 1 ≤ c → c ≤ p → Went p c m → (1 ≤ m .line) × (m .line ≤ p)
 went-on a b (stays l n e) = (omega arith, omega arith)

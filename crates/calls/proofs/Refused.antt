@@ -25,6 +25,7 @@ use Rattle.calls.specs.Contents.{rangesOk, coreOk}
 use Rattle.calls.specs.Effects.{Effect, refused, moveOf}
 use Rattle.calls.specs.Calls.{Call, command, compose, release, tally, movement, testsOf, refusalOf, doCompose, perform, sizeOf, effect, lent, Outcome, step}
 use Rattle.calls.specs.Start.{Asked, startTests, startRefusal, noState, noPrinter, startOutcome}
+use Rattle.calls.proofs.Standing.{at-once-has}
 
 -- What a call does is what its refusal says, or what the accepted call does.
 pub refused-effect : (k : Core) (c : Call) → isAccepted (refusalOf k c) ≡ false → effect k c ≡ refused k (sizeOf c) (refusalOf k c)
@@ -53,7 +54,7 @@ refused-step w c e = rw (refused-effect (w .core) c e)
 pub one-page-only : (k : Core) (c : Command) → movement k c .pages ≤ 1
 unfolding movement moveOf still toTop
 one-page-only k (Write m) = one-page _ _ m
-one-page-only k (Move m) = one-page _ _ m
+one-page-only k (Move m) = at-once-has (λ (v : Moved). v .pages ≤ 1) (k .state) m (lit≤ tt) (one-page _ _ m)
 one-page-only k (Controls c) =
     cond-has (λ (v : Moved). v .pages ≤ 1) (controlTraits c .completes && started (k .state .sheet)) (λ t. lit≤ tt) (λ t. lit≤ tt)
 one-page-only k (Loads l) = lit≤ tt

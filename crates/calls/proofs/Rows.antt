@@ -4,7 +4,7 @@ use mathlib.Core.Path.{_≡_, refl}
 use mathlib.Core.Bool.{Bool, true, false}
 use mathlib.Core.List.{List, [], _∷_, _++_, map, flatten, zipWith}
 use lib.ListN.{length, replicate}
-use Rattle.seq.specs.Words.{from, zeros, when, firstOr, every, padded}
+use Rattle.seq.specs.Words.{from, bit, zeros, when, firstOr, every, padded}
 use Rattle.numbers.specs.Sizes.{lineWidth, lineBytes, pageSize, legendSize, slotSize, tableSize, senseSize}
 use Rattle.numbers.specs.declared.Sense.{Sense}
 use Rattle.numbers.specs.declared.Answer.{Answer}
@@ -14,7 +14,7 @@ use Rattle.numbers.specs.declared.Refusal.the-variants.{Accepted, NotListed, Lo
 use Rattle.numbers.specs.Numbers.{sense3, noSense, causeOf, rowOf, isAccepted, checked, isSound}
 use Rattle.form.specs.declared.Forms.{Forms}
 use Rattle.form.specs.Form.{formLengths, pitchesListed, pitchesOk, formOk, unitsOf, runsFrom, runs, unitsTotal, linesWhere, printable, edges, fcbCheck, layoutCheck, layoutOf, channelAt, startFcb, fcbSize, formsOf, formsInRange}
-use Rattle.movement.specs.Movement.{entered, round, upToFirst, spaced, skipped, moved, still, toTop}
+use Rattle.movement.specs.Movement.{entered, round, upToFirst, spaced, skipped, moved, isThere, still, toTop}
 use Rattle.line.specs.declared.Cell.{Cell}
 use Rattle.line.specs.declared.Slots.{Slots}
 use Rattle.line.specs.Cells.{unruled, ruled, stored, cellsIn, marksOk}
@@ -30,17 +30,18 @@ use Rattle.calls.specs.Core.{Stores, World, withBlocked, withForms, with
 use Rattle.calls.specs.Commands.{issued, codes, lookUp, decode, controlTraits, traitsOf}
 use Rattle.calls.specs.Contents.{lineOk, rangesOk, dueOk, writtenOk, coreOk}
 use Rattle.calls.specs.Reset.{blankSheet, noCells, Kept, resetState, resetStores, reset, fresh, byte3, senseBytes}
-use Rattle.calls.specs.Effects.{refused, done, movedSheet, moveOf, doMove, writtenSheet, written, writeCauses, doWrite, loadCheck, atLine1, slotLoaded, slotSelected, loaded, loadCauses, doLoad, completing, doControl, doCommand}
+use Rattle.calls.specs.Effects.{refused, done, movedSheet, moveOf, stands, atOnce, doMove, writtenSheet, written, writeCauses, doWrite, loadCheck, atLine1, slotLoaded, slotSelected, loaded, loadCauses, doLoad, completing, doControl, doCommand}
 use Rattle.calls.specs.Calls.{Call, command, compose, release, tally, checkOf, movement, refusalOf, copyAt, doCompose, pageCounted, emptied, released as releasedCore, doRelease, tallying, doTally, perform, effect, step}
-use Rattle.calls.specs.Start.{asked, startRefusal, startWorld, noState, noPrinter, startOutcome}
+use Rattle.calls.specs.Start.{asked, newWay, oldWay, skipOk, startRefusal, startWorld, noState, noPrinter, startOutcome}
 use Rattle.calls.specs.Lists.{Deed, commanded, wasReleased, wasTallied, worldAfter, counts, readOf, deedOf, finishesReset, copiesOfPage, given, sinceNow, note, sinceOver, sinceReset}
+use Rattle.calls.proofs.Standing.{withWay}
 
 -- A printer started over stores full of other bytes, with these pitches on the 3½ inch form; R1 to R12 have all four pitches 10.
 abbrev old : Stores
 old = record { page = replicate pageSize 5; legends = replicate legendSize 6; tables = replicate tableSize 7 }
 
-abbrev begun : List ℕ → World
-begun ps = startOutcome (asked 84 ps) old .world
+abbrev begun : List ℕ → ℕ → World
+begun ps skip = startOutcome (asked 84 ps skip) old .world
 
 abbrev tens : List ℕ
 tens = replicate 4 10
@@ -59,8 +60,8 @@ ran r (c ∷ cs) =
     ran (record { calls = r .calls ++ (c ∷ []); answers = r .answers ++ (o .answer ∷ []); buffer = o .buffer; world = o .world }) cs
 
 unfoldable pub see : Row → Row
-unfolding ran stored cellsIn marksOk flatten zipWith when firstOr every padded causeOf rowOf isAccepted checked isSound formLengths pitchesListed pitchesOk formOk unitsOf runsFrom runs unitsTotal linesWhere printable edges fcbCheck layoutCheck layoutOf channelAt startFcb formsOf formsInRange entered round upToFirst spaced skipped moved still toTop slotAt putSlot isLoaded serving unprintable standIn codeOf translated unprintableAt lineCodes mergeRules mergeCell collides mergeLine anyCollides cellsAfter lineAt putLine pageWritten noCauses textCauses lineCauses orUnmatched causeByte startTable startTables startSlots slotsInRange tableCheck pairsOf copiesOf sequenceCheck markIn numberCheck withSequence withReference startCopies copyCount copyNumber copyMark copiesInRange segmentOf badHead cut segments legendCheck storedLegends unprintableInTexts storedSegments legendsOk noLegends covers shown copyFrom composed sizesOk linesNow started codes lookUp decode controlTraits traitsOf lineOk rangesOk dueOk writtenOk coreOk blankSheet noCells resetState resetStores reset fresh byte3 senseBytes refused done movedSheet moveOf doMove writtenSheet written writeCauses doWrite loadCheck atLine1 slotLoaded slotSelected loaded loadCauses doLoad completing doControl doCommand checkOf movement refusalOf copyAt doCompose pageCounted emptied releasedCore doRelease tallying doTally counted tallied transferred fused stacked cancelled restarted noneBetween countersOk perform effect step startRefusal startWorld noState noPrinter startOutcome worldAfter counts readOf deedOf finishesReset sinceNow note sinceOver sinceReset copiesOfPage given
-see r = ran (record { calls = []; answers = []; buffer = []; world = begun (r .world .core .state .fixed .pitches) }) (r .calls)
+unfolding ran stored cellsIn marksOk flatten zipWith when firstOr every padded causeOf rowOf isAccepted checked isSound formLengths pitchesListed pitchesOk formOk unitsOf runsFrom runs unitsTotal linesWhere printable edges fcbCheck layoutCheck layoutOf channelAt startFcb formsOf formsInRange entered round upToFirst spaced skipped moved isThere still toTop slotAt putSlot isLoaded serving unprintable standIn codeOf translated unprintableAt lineCodes mergeRules mergeCell collides mergeLine anyCollides cellsAfter lineAt putLine pageWritten noCauses textCauses lineCauses orUnmatched causeByte startTable startTables startSlots slotsInRange tableCheck pairsOf copiesOf sequenceCheck markIn numberCheck withSequence withReference startCopies copyCount copyNumber copyMark copiesInRange segmentOf badHead cut segments legendCheck storedLegends unprintableInTexts storedSegments legendsOk noLegends covers shown copyFrom composed sizesOk linesNow started codes lookUp decode controlTraits traitsOf lineOk rangesOk dueOk writtenOk coreOk blankSheet noCells resetState resetStores reset fresh byte3 senseBytes refused done movedSheet moveOf stands atOnce doMove writtenSheet written writeCauses doWrite loadCheck atLine1 slotLoaded slotSelected loaded loadCauses doLoad completing doControl doCommand checkOf movement refusalOf copyAt doCompose pageCounted emptied releasedCore doRelease tallying doTally counted tallied transferred fused stacked cancelled restarted noneBetween countersOk perform effect step skipOk startRefusal startWorld noState noPrinter startOutcome worldAfter counts readOf deedOf finishesReset sinceNow note sinceOver sinceReset copiesOfPage given
+see r = ran (record { calls = []; answers = []; buffer = []; world = let f = r .world .core .state .fixed in begun (f .pitches) (bit (f .old) oldWay) }) (r .calls)
 
 -- Calls: a command alone, one with a record, Sense into a buffer of a byte too many, Compose into an output of just the form's 15 lines.
 abbrev cmd : ℕ → Call
@@ -129,7 +130,7 @@ waiting l = sheet l false true false
 
 -- What Start leaves, written out; and with another sheet.
 abbrev pitched : List ℕ → Sheet → State
-pitched ps x = record { fixed = record { length = 84; pitches = ps }; blocked = false; forms = fcb (zeros 3 ++ 1 ∷ zeros 17); slots = slot 0; copies = pair 1 0 1; sheet = x; counters = counters 0 0 0 0 }
+pitched ps x = record { fixed = record { length = 84; pitches = ps; old = false }; blocked = false; forms = fcb (zeros 3 ++ 1 ∷ zeros 17); slots = slot 0; copies = pair 1 0 1; sheet = x; counters = counters 0 0 0 0 }
 
 abbrev on : Sheet → State
 on x = pitched tens x
@@ -168,6 +169,10 @@ row calls answers buffer sense s m = record { calls = calls; answers = answers; 
 abbrev after : List Call → Call → Answer → Sense → State → Stores → Row
 after cs c a = row (cs ++ (c ∷ [])) (replicate (length cs) fine ++ (a ∷ [])) []
 
+-- T-05: a row in the old way.
+abbrev inOldWay : Row → Row
+inOldWay r = row (r .calls) (r .answers) (r .buffer) (r .world .sense) (withWay (r .world .core .state) true) (r .world .core .stores)
+
 -- The codes of a line of C2 with 01 in its last cell.
 abbrev legended : List ℕ
 legended = 2 ∷ zeros (lineWidth - 2) ++ (1 ∷ [])
@@ -195,7 +200,7 @@ rows =
     ∷ row (replicate 14 (cmd 0x0B)) (replicate 14 (says Accepted 0x0C false 1)) [] noSense (on (at 15)) (page [])
     ∷ row (replicate 13 (cmd 0x0B) ++ (cmd 0x1B ∷ [])) (replicate 13 (says Accepted 0x0C false 1) ++ (completes 2 ∷ [])) [] noSense (on (waiting 1)) (page [])
     -- R6
-    ∷ after [] (cmd 0x8B) (completes 15) noSense (on (waiting 1)) (page [])
+    ∷ inOldWay (after [] (cmd 0x8B) (completes 15) noSense (on (waiting 1)) (page []))
     -- R7
     ∷ after [] (cmd 0x93) (says Accepted 0x0E true 15) (sense3 0x08 0x10 0) (on (waiting 1)) (page [])
     -- R8
@@ -230,6 +235,10 @@ channels = zeros 3 ++ 1 ∷ 9 ∷ 0x0C ∷ zeros 15
 
 abbrev channel5 : List ℕ
 channel5 = zeros 3 ++ 1 ∷ zeros 3 ++ 5 ∷ zeros 13
+
+-- Calls on the form with channel 5, all but the last with these answers.
+abbrev fiveThen : List Answer → List Call → Answer → Sheet → Stores → Row
+fiveThen answers cs a x m = row (with 0x63 channel5 ∷ cs) (fine ∷ answers ++ (a ∷ [])) [] noSense (withForms (on x) (fcb channel5)) m
 
 -- Sense after these calls: their answers, byte 3 of the reply, and what is left.
 abbrev sensing : List Call → List Answer → ℕ → State → Row
@@ -357,13 +366,42 @@ requests =
     (fine ∷ fine ∷ completes 0 ∷ freed ∷ fine ∷ fine ∷ []) [] noSense (out (on writing)) (page (1 ∷ []))
     ∷ []
 
+-- Rows for T-05: an immediate skip on a line of its own channel. They are of the new way where none is named.
+unfoldable pub skips : List Row
+skips =
+    -- At line 1 of a fresh form it stands, and sets the sense anew; as often as it is sent.
+    after [] (cmd 0x8B) fine noSense (on (at 1)) (page [])
+    ∷ row (cmd 0xFF ∷ cmd 0x8B ∷ cmd 0x8B ∷ []) (says NotListed 0x0E false 0 ∷ fine ∷ fine ∷ []) [] noSense (on (at 1)) (page [])
+    -- After a space to a line of that channel it stands, though another line is written; in the old way it goes round.
+    ∷ fiveThen (says Accepted 0x0C false 1 ∷ says Accepted 0x0C false 3 ∷ []) (with 0x09 (0xC1 ∷ []) ∷ cmd 0x1B ∷ cmd 0xAB ∷ []) fine (at 5) (page (1 ∷ []))
+    ∷ inOldWay (fiveThen (says Accepted 0x0C false 1 ∷ says Accepted 0x0C false 3 ∷ []) (with 0x09 (0xC1 ∷ []) ∷ cmd 0x1B ∷ cmd 0xAB ∷ []) (completes 15) (waiting 5) (page (1 ∷ [])))
+    -- After a skip that landed there it stands.
+    ∷ fiveThen (says Accepted 0x0C false 4 ∷ []) (cmd 0xAB ∷ cmd 0xAB ∷ []) fine (at 5) (page [])
+    ∷ inOldWay (fiveThen (says Accepted 0x0C false 4 ∷ []) (cmd 0xAB ∷ cmd 0xAB ∷ []) (completes 15) (waiting 5) (page []))
+    -- On a written line it moves, with a command that does not move between the two as well.
+    ∷ after (with 0x01 (0xC1 ∷ []) ∷ []) (cmd 0x8B) (completes 15) noSense (on (waiting 1)) (page (1 ∷ []))
+    ∷ after (with 0x01 (0xC1 ∷ []) ∷ cmd 0x47 ∷ []) (cmd 0x8B) (completes 15) noSense (on (waiting 1)) (page (1 ∷ []))
+    -- With another channel on the line, or none, it moves.
+    ∷ fiveThen [] (cmd 0xAB ∷ []) (says Accepted 0x0C false 4) (at 5) (page [])
+    ∷ row (cmd 0x0B ∷ cmd 0x8B ∷ []) (says Accepted 0x0C false 1 ∷ completes 14 ∷ []) [] noSense (on (waiting 1)) (page [])
+    -- A write and skip at its own channel moves.
+    ∷ after [] (with 0x89 (0xC1 ∷ [])) (completes 15) noSense (on (waiting 1)) (page (1 ∷ []))
+    -- A page that waits comes first. On the next form, where a skip has landed, it stands after the Release.
+    ∷ row (with 0x63 channel5 ∷ cmd 0xAB ∷ cmd 0x0B ∷ cmd 0xAB ∷ cmd 0xAB ∷ release ∷ cmd 0xAB ∷ [])
+    (fine ∷ says Accepted 0x0C false 4 ∷ says Accepted 0x0C false 1 ∷ completes 14 ∷ says PageWaiting 0x10 false 0 ∷ freed ∷ fine ∷ []) [] noSense
+    (out (withForms (on (at 5)) (fcb channel5))) (page [])
+    -- Either way lives through both resets.
+    ∷ row (with 0x37 [] ∷ cmd 0x8B ∷ []) (fine ∷ fine ∷ []) [] noSense (on (at 1)) (page [])
+    ∷ inOldWay (row (with 0x01 (0xC1 ∷ []) ∷ cmd 0x37 ∷ release ∷ with 0x37 [] ∷ cmd 0x8B ∷ []) (fine ∷ completes 0 ∷ freed ∷ fine ∷ completes 15 ∷ []) [] noSense (out (on (waiting 1))) (page []))
+    ∷ []
+
 -- A refused Start: all zeros, and the stores as they were.
 abbrev zeroState : State
-zeroState = record { fixed = record { length = 0; pitches = zeros 4 }; blocked = false; forms = fcb []; slots = record { loaded = replicate 4 false; selected = 0 }; copies = record { pairs = zeros pairSize; count = 0; reference = 0 }; sheet = at 0; counters = counters 0 0 0 0 }
+zeroState = record { fixed = record { length = 0; pitches = zeros 4; old = false }; blocked = false; forms = fcb []; slots = record { loaded = replicate 4 false; selected = 0 }; copies = record { pairs = zeros pairSize; count = 0; reference = 0 }; sheet = at 0; counters = counters 0 0 0 0 }
 
-pub refused-start-table : startOutcome (asked 85 tens) old
-    ≡ record { answer = says BadForm 0 false 0; buffer = []; world = record { core = record { state = zeroState; stores = old }; sense = sense3 0 0 0 } }
-unfolding startOutcome startRefusal noPrinter noState sizesOk formOk formLengths every firstOr when isAccepted rowOf
+pub refused-start-table : (startOutcome (asked 85 tens newWay) old ∷ startOutcome (asked 84 tens 2) old ∷ [])
+    ≡ replicate 2 (record { answer = says BadForm 0 false 0; buffer = []; world = record { core = record { state = zeroState; stores = old }; sense = sense3 0 0 0 } })
+unfolding startOutcome startRefusal noPrinter noState sizesOk skipOk formOk formLengths pitchesOk pitchesListed every firstOr when isAccepted rowOf
 refused-start-table = refl
 
 -- What counts since the latest finished reset, of lists with refused calls, No-Op, Sense and Compose among them: since the Release that did a reset with
@@ -390,15 +428,20 @@ lists =
     ∷ []
 
 unfoldable pub seen : Counted → Counted
-seen l = let s = sinceReset (begun tens) (l .calls) in record { calls = l .calls; kept = s .kept; deeds = s .deeds }
+seen l = let s = sinceReset (begun tens newWay) (l .calls) in record { calls = l .calls; kept = s .kept; deeds = s .deeds }
 
 -- Lists of calls go from the first call to the last.
 abbrev spaceThenClear : World
-spaceThenClear = worldAfter (begun tens) (cmd 0x0B ∷ cmd 0x87 ∷ [])
+spaceThenClear = worldAfter (begun tens newWay) (cmd 0x0B ∷ cmd 0x87 ∷ [])
 
 pub rows-table : map see rows ≡ rows
 unfolding see rows
 rows-table = refl
+
+-- T-05: in the old way all of them hold, R6 too.
+pub old-rows-table : map see (map inOldWay rows) ≡ map inOldWay rows
+unfolding see rows
+old-rows-table = refl
 
 pub ours-table : map see ours ≡ ours
 unfolding see ours
@@ -407,6 +450,10 @@ ours-table = refl
 pub requests-table : map see requests ≡ requests
 unfolding see requests
 requests-table = refl
+
+pub skips-table : map see skips ≡ skips
+unfolding see skips
+skips-table = refl
 
 pub lists-table : (map seen lists ≡ lists) × (spaceThenClear .core .state .sheet ≡ waiting 1)
 unfolding see seen lists

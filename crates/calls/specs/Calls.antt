@@ -28,7 +28,7 @@ use Rattle.calls.specs.Core.{Core, World, withState, withPage, withSheet
 use Rattle.calls.specs.Commands.{Issued, decode, controlTraits, traitsOf, isUnlisted, isLoad}
 use Rattle.calls.specs.Contents.{coreOk}
 use Rattle.calls.specs.Reset.{blankSheet, noCells, reset}
-use Rattle.calls.specs.Effects.{Effect, nothing, refused, moveOf, standing, loadCheck, doCommand}
+use Rattle.calls.specs.Effects.{Effect, nothing, refused, moveOf, atOnce, standing, loadCheck, doCommand}
 
 -- Calls: a command as it is issued; Compose, with a copy index from 1 and an output buffer; Release. T-02: a report of a station, a cancel, a restart.
 pub data Call : Type 0 where
@@ -56,7 +56,7 @@ checkOf s Unlisted i = Sound
 -- Numbers, 11: the movement that a command makes, with the pages that it completes.
 unfoldable pub movement : Core → Command → Moved
 movement k (Write m) = moveOf (k .state) m
-movement k (Move m) = moveOf (k .state) m
+movement k (Move m) = atOnce (k .state) m
 movement k (Controls c) = cond (controlTraits c .completes && started (k .state .sheet)) toTop (standing k)
 movement k (Loads l) = standing k
 movement k Unlisted = standing k

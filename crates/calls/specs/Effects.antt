@@ -17,7 +17,7 @@ use Rattle.numbers.specs.Numbers.{sense3, noSense, rowOf, only}
 use Rattle.movement.specs.declared.Motion.{Motion}
 use Rattle.movement.specs.declared.Moved.{Moved}
 use Rattle.form.specs.Form.{fcbCheck, formsOf}
-use Rattle.movement.specs.Movement.{moved, still, toTop}
+use Rattle.movement.specs.Movement.{moved, isThere, still, toTop}
 use Rattle.line.specs.declared.Slots.{Slots}
 use Rattle.line.specs.declared.Causes.{Causes}
 use Rattle.line.specs.Line.{putSlot, serving, translated, unprintableAt, lineCodes, lineAt, pageWritten, noCauses, textCauses, lineCauses, orUnmatched, causeByte}
@@ -86,9 +86,16 @@ movedCore due k m = withState k (withSheet (k .state) (movedSheet due (k .state 
 unfoldable pub moveOf : State → Motion → Moved
 moveOf s m = moved (linesNow s) (s .sheet .line) m
 
+-- T-05: in the new way an immediate skip stands, where the current line has its channel and has nothing written on it.
+unfoldable pub stands : State → Motion → Bool
+stands s m = (not (s .fixed .old) && not (s .sheet .written)) && isThere (linesNow s) (s .sheet .line) m
+
 -- Movement: the immediate commands.
+unfoldable pub atOnce : State → Motion → Moved
+atOnce s m = cond (stands s m) (still (s .sheet .line)) (moveOf s m)
+
 unfoldable pub doMove : Core → Motion → Effect
-doMove k m = let mv = moveOf (k .state) m in done (movedCore false k mv) (orUnmatched noCauses (mv .missed)) mv
+doMove k m = let mv = atOnce (k .state) m in done (movedCore false k mv) (orUnmatched noCauses (mv .missed)) mv
 
 -- Writing a line, before movement: the record's codes go on the current line, and the line is written, whatever they are.
 unfoldable pub writtenSheet : Sheet → Sheet

@@ -24,7 +24,7 @@ use Rattle.calls.specs.Core.{Stores, Core, sizesOk, P, started}
 use Rattle.calls.specs.Commands.{Issued, traitsOf, isUnlisted, isLoad}
 use Rattle.calls.specs.Contents.{dueOk, writtenOk, coreOk}
 use Rattle.calls.specs.Calls.{badRecord, checkOf}
-use Rattle.calls.specs.Start.{Asked}
+use Rattle.calls.specs.Start.{Asked, skipOk}
 
 -- Contents that a printer can have, part by part.
 pub record Sizes (m : Stores) : Type 0 where
@@ -90,3 +90,4 @@ pub record Composable (k : Core) (n : ℕ) (out : List ℕ) : Type 0 where
 pub record Startable (a : Asked) (m : Stores) : Type 0 where
   pub sizes : sizesOk m ≡ true
   pub form : formOk (a .length) (a .pitches) ≡ true
+  pub skip : skipOk (a .skip) ≡ true

@@ -1,10 +1,11 @@
 -- Document 01, "Calls" and "Numbers": Start, and what a refused Start hands back.
 use Prim.Native.Nat.{ℕ}
-use mathlib.Core.Bool.{false, cond, not}
+use mathlib.Core.Bool.{Bool, false, cond, not, _&&_}
 use mathlib.Core.Option.{Option}
 use mathlib.Core.List.{List, [], _∷_}
 use lib.ListN.{replicate}
-use Rattle.seq.specs.Words.{when, firstOr, zeros}
+use lib.Dec.{eqb}
+use Rattle.seq.specs.Words.{when, firstOr, listed, zeros}
 use Rattle.numbers.specs.declared.Refusal.{Refusal}
 use Rattle.numbers.specs.declared.Refusal.the-variants.{Accepted, BadStore, BadForm}
 use Rattle.numbers.specs.Numbers.{noSense, rowOf, isAccepted, only}
@@ -21,18 +22,29 @@ use Rattle.calls.specs.Calls.{Outcome}
 pub record Asked : Type 0 where
   pub length : ℕ
   pub pitches : List ℕ
+  pub skip : ℕ
 
-abbrev pub asked : ℕ → List ℕ → Asked
-asked len ps = record { length = len; pitches = ps }
+abbrev pub asked : ℕ → List ℕ → ℕ → Asked
+asked len ps skip = record { length = len; pitches = ps; skip = skip }
+
+-- T-05: the two ways of an immediate skip, as Start is asked for them.
+abbrev pub newWay : ℕ
+newWay = 0
+
+abbrev pub oldWay : ℕ
+oldWay = 1
+
+unfoldable pub skipOk : ℕ → Bool
+skipOk n = listed (newWay ∷ oldWay ∷ []) n
 
 abbrev pub fixedBy : Asked → Fixed
-fixedBy a = record { length = a .length; pitches = a .pitches }
+fixedBy a = record { length = a .length; pitches = a .pitches; old = eqb (a .skip) oldWay }
 
--- Numbers: the order of Start is 9, by sizes alone, then 10.
+-- Numbers: the order of Start is 9, by sizes alone, then 10, T-05's way of skipping too.
 abbrev pub startTests : Asked → Stores → List (Option Refusal)
 startTests a m =
     when (not (sizesOk m)) BadStore
-    ∷ when (not (formOk (a .length) (a .pitches))) BadForm
+    ∷ when (not (formOk (a .length) (a .pitches) && skipOk (a .skip))) BadForm
     ∷ []
 
 unfoldable pub startRefusal : Asked → Stores → Refusal
@@ -50,7 +62,7 @@ startWorld a = record { core = fresh (fixedBy a) startKept; sense = noSense }
 unfoldable pub noState : State
 noState =
     record {
-      fixed = record { length = 0; pitches = zeros 4 };
+      fixed = record { length = 0; pitches = zeros 4; old = false };
       blocked = false;
       forms = record { fcb = zeros fcbSize; count = 0 };
       slots = record { loaded = replicate 4 false; selected = 0 };

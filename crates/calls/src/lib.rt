@@ -7,10 +7,11 @@ use movement::Motion;
 ghost use mathlib.Core.Path.{_≡_};
 ghost use Rattle.calls.specs.Core.{started};
 
-// What Start fixes: the form length in 24ths of an inch, and the pitch of each module, 0 if it is not fitted.
+// What Start fixes: the form length in 24ths of an inch, the pitch of each module, 0 if it is not fitted, and whether immediate skips go the old way (T-05).
 pub struct Fixed {
     pub length: u16,
     pub pitches: [u8; 4],
+    pub old: bool,
 }
 
 // The form and the page in work: the current line, whether it is written on, whether a completed page waits, and whether its

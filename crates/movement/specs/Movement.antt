@@ -52,7 +52,7 @@ spaced ls c n =
     record { lines = length w; pages = to .form; line = to .line; nine = any (has ls 9) w; twelve = any (has ls 12) w; missed = false }
 
 -- Skipping: its lines moved are those looked at, the match among them. Without one the page is completed and line 1 taken. A skip reports
--- neither 9 nor 12, and an immediate one is no different (house).
+-- neither 9 nor 12, and an immediate one that moves is no different (house).
 unfoldable pub skipped : List ℕ → ℕ → ℕ → Moved
 skipped ls c channel =
     let r = round (length ls) c in
@@ -65,6 +65,11 @@ skipped ls c channel =
 unfoldable pub moved : List ℕ → ℕ → Motion → Moved
 moved ls c (Space n) = spaced ls c n
 moved ls c (Skip channel) = skipped ls c channel
+
+-- T-05: a skip leads to where the form is already if the current line has its channel.
+unfoldable pub isThere : List ℕ → ℕ → Motion → Bool
+isThere ls c (Space n) = false
+isThere ls c (Skip channel) = has ls channel (spot 0 c)
 
 -- No movement; and what Clear makes of a started page: it is completed, with the form at line 1 of the next.
 unfoldable pub still : ℕ → Moved

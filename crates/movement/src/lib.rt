@@ -1,12 +1,12 @@
 // Document 01, "Movement": spacing, skipping, and either on a part of an FCB.
 ghost use mathlib.Core.Path.{_≡_};
-ghost use mathlib.Core.Bool.{cond};
+ghost use mathlib.Core.Bool.{cond, _&&_};
 ghost use Prim.Native.Nat.{_+_, _-_, _≤_};
 ghost use lib.Dec.{ltb};
 ghost use lib.ListN.{length, take, drop};
 ghost use Rattle.numbers.specs.Sizes.{pageLines};
 ghost use Rattle.form.specs.Form.{channelAt, fcbSize};
-ghost use Rattle.movement.specs.Movement.{OnForm, round, upToFirst, has, spaced, skipped, moved, still};
+ghost use Rattle.movement.specs.Movement.{OnForm, round, upToFirst, has, spaced, skipped, moved, isThere, still};
 
 // What a command asks of the form: to space so many lines, or to skip to a channel.
 pub enum Motion {
@@ -157,6 +157,16 @@ fn skip(lines: &[u8], line: u8, channel: u8) -> Moved
     }
 }
 
+fn is_there(lines: &[u8], line: u8, motion: Motion) -> bool
+    requires { ⌜ OnForm (now lines) line ⌝ }
+    ensures { λ r. ⌜ r ≡ isThere (now (lines .entry)) line motion ⌝ }
+{
+    match motion {
+        Motion::Space(n) => false,
+        Motion::Skip(channel) => channel_at(lines, line) == channel,
+    }
+}
+
 fn move_lines(lines: &[u8], line: u8, motion: Motion) -> Moved
     requires { ⌜ OnForm (now lines) line ⌝ }
     ensures { λ r. ⌜ r ≡ moved (now (lines .entry)) line motion ⌝ }
@@ -167,16 +177,27 @@ fn move_lines(lines: &[u8], line: u8, motion: Motion) -> Moved
     }
 }
 
-// The printable lines are a part of the FCB: `lines` of them after the first `top`.
-pub fn move_form(fcb: &[u8], top: u16, lines: u16, line: u8, motion: Motion) -> Moved
+fn move_or_stand(lines: &[u8], line: u8, may: bool, motion: Motion) -> Moved
+    requires { ⌜ OnForm (now lines) line ⌝ }
+    ensures { λ r. ⌜ r ≡ cond (may && isThere (now (lines .entry)) line motion) (still line) (moved (now (lines .entry)) line motion) ⌝ }
+{
+    if may & is_there(lines, line, motion) {
+        return Moved::still(line);
+    }
+    move_lines(lines, line, motion)
+}
+
+// The printable lines are a part of the FCB: `lines` of them after the first `top`. Where it may, the form stands if it is there.
+pub fn move_form(fcb: &[u8], top: u16, lines: u16, line: u8, may: bool, motion: Motion) -> Moved
     requires { ⌜ length (now fcb) ≡ fcbSize ⌝ }
     requires { ⌜ top + lines ≤ fcbSize ⌝ }
     requires { ⌜ lines ≤ pageLines ⌝ }
     requires { ⌜ 1 ≤ line ⌝ }
     requires { ⌜ line ≤ lines ⌝ }
-    ensures { λ r. ⌜ r ≡ moved (take lines (drop top (now (fcb .entry)))) line motion ⌝ }
+    ensures { λ r. ⌜ (let ls = take lines (drop top (now (fcb .entry))) in
+        r ≡ cond (may && isThere ls line motion) (still line) (moved ls line motion)) ⌝ }
 {
     let at = top as usize;
     let end = at + lines as usize;
-    move_lines(&fcb[at..end], line, motion)
+    move_or_stand(&fcb[at..end], line, may, motion)
 }

@@ -5,7 +5,7 @@ use Rattle.movement.proofs.move_form.Statement.{statement}
 use Rattle.movement.proofs.move_form.Tie as tie
 
 returns : tie.Need-returns
-returns c = simp add-sub-cancel-left at (c .move-lines .ensures)
+returns c = simp add-sub-cancel-left at (c .move-or-stand .ensures)
 
 pub move-form-spec : {M : Type 1} → statement M
 move-form-spec =
