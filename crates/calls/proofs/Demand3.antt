@@ -64,7 +64,7 @@ alike f v w xs ys ev ew p q =
       composes = λ zs n out. compose-alike _ _ n out (after-alike _ _ zs e);
     }
 
--- Demand 3: from two accepted Starts with the same form and pitches, over whatever stores.
+-- Demand 3: from two accepted Starts with the same form, pitches and way of skipping, over whatever stores.
 pub demand-3 : (a : Asked) (m m′ : Stores) (xs ys : List Call)
     → isAccepted (startRefusal a m) ≡ true
     → isAccepted (startRefusal a m′) ≡ true

@@ -14,6 +14,13 @@ pub struct Fixed {
     pub old: bool,
 }
 
+impl Fixed {
+    // The two ways, as Start is asked for them.
+    pub const NEW_WAY: u32 = 0;
+
+    pub const OLD_WAY: u32 = 1;
+}
+
 // The form and the page in work: the current line, whether it is written on, whether a completed page waits, and whether its
 // Release is to reset. Lines are only left forwards, so whether another line is written is never asked.
 pub struct Sheet {

@@ -4,16 +4,19 @@ use Prim.Native.Nat.{ℕ, _+_}
 use Rattle.form.specs.Form.{fcbSize}
 use Rattle.copies.specs.Copies.{pairSize}
 
--- What Start fixes: the form length in two bytes, high byte first, and a pitch for each of four modules.
+-- What Start fixes: the form length in two bytes, high byte first, a pitch for each of four modules, and the way of skipping (T-05).
 abbrev pub lengthAt : ℕ
 lengthAt = 0
 
 abbrev pub pitchesAt : ℕ
 pitchesAt = lengthAt + 2
 
+abbrev pub skipAt : ℕ
+skipAt = pitchesAt + 4
+
 -- The check switch.
 abbrev pub blockedAt : ℕ
-blockedAt = pitchesAt + 4
+blockedAt = skipAt + 1
 
 -- How many bytes the FCB has.
 abbrev pub fcbCountAt : ℕ

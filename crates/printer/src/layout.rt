@@ -18,7 +18,9 @@ impl Printer {
 
     pub const PITCHES_AT: usize = Printer::LENGTH_AT + 2;
 
-    pub const BLOCKED_AT: usize = Printer::PITCHES_AT + 4;
+    pub const SKIP_AT: usize = Printer::PITCHES_AT + 4;
+
+    pub const BLOCKED_AT: usize = Printer::SKIP_AT + 1;
 
     pub const FCB_COUNT_AT: usize = Printer::BLOCKED_AT + 1;
 

@@ -10,11 +10,12 @@ use movement::Moved;
 use numbers::Answer;
 use numbers::Refusal;
 ghost use mathlib.Core.Path.{_≡_};
+ghost use mathlib.Core.Bool.{cond, _&&_};
 ghost use mathlib.Core.List.{List};
 ghost use Prim.Native.Nat.{ℕ};
-ghost use Rattle.movement.specs.Movement.{toTop};
+ghost use Rattle.movement.specs.Movement.{isThere, still, toTop};
 ghost use Rattle.line.specs.Line.{noCauses};
-ghost use Rattle.calls.specs.Core.{Stores, storesOf};
+ghost use Rattle.calls.specs.Core.{Stores, storesOf, linesNow};
 ghost use Rattle.calls.specs.Reset.{blankSheet};
 ghost use Rattle.calls.specs.Effects.{refused, done, movedSheet, movedCore, moveOf, writtenSheet, doMove, doWrite, standing};
 ghost use Rattle.printer.specs.Worlds.{Did};
@@ -119,22 +120,25 @@ impl Printer {
         self.finish(Causes::NONE, Moved::TOP)
     }
 
-    // A local is lent, as a field would lay the whole printer into memory.
-    fn move_of(self, form: Layout, motion: Motion) -> Moved
+    // The movement of a command that may stand, or may not. A local is lent, as a field would lay the whole printer into memory.
+    fn move_of(self, form: Layout, may: bool, motion: Motion) -> Moved
         requires { ⌜ Fit (self .state) form ⌝ }
-        ensures { λ r. ⌜ r ≡ moveOf (self .state) motion ⌝ }
+        ensures { λ r. ⌜ (let line = self .state .sheet .line in
+            r ≡ cond (may && isThere (linesNow (self .state)) line motion) (still line) (moveOf (self .state) motion)) ⌝ }
     {
         let fcb = self.state.forms.fcb;
-        movement::move_form(&fcb, form.top, form.lines, self.state.sheet.line, motion)
+        let line = self.state.sheet.line;
+        movement::move_form(&fcb, form.top, form.lines, line, may, motion)
     }
 
-    // The immediate commands.
+    // The immediate commands. In the new way one may stand, unless the line is written on.
     pub fn move_on(mut self, form: Layout, motion: Motion) -> Step
         requires { ⌜ Fit (self .state) form ⌝ }
         ensures { λ r. ⌜ ((m : Stores) → Did self m r m (λ k. doMove k motion)) ⌝ }
     {
         let mut state = self.state;
-        let moved = self.move_of(form, motion);
+        let may = !state.fixed.old & !state.sheet.written;
+        let moved = self.move_of(form, may, motion);
         let causes = line::or_unmatched(Causes::NONE, moved.missed);
         let sheet = moved_sheet(false, state.sheet, moved);
         state.sheet = sheet;
@@ -168,7 +172,7 @@ impl Printer {
             state.slots,
             tables,
         );
-        let moved = self.move_of(form, motion);
+        let moved = self.move_of(form, false, motion);
         let causes = line::or_unmatched(found, moved.missed);
         let after = moved_sheet(false, written_sheet(sheet), moved);
         state.sheet = after;

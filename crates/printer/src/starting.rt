@@ -31,6 +31,7 @@ impl Printer {
             fixed: Fixed {
                 length: 0,
                 pitches: [0; 4],
+                old: false,
             },
             blocked: false,
             forms: Forms {
@@ -102,17 +103,19 @@ impl Printer {
         p1: u32,
         p2: u32,
         p3: u32,
+        skip: u32,
         page: &mut [u8],
         legends: &mut [u8],
         tables: &mut [u8],
     ) -> Step
-        requires { ⌜ Startable (asked form (p0 ∷ p1 ∷ p2 ∷ p3 ∷ [])) (storesOf (now page) (now legends) (now tables)) ⌝ }
+        requires { ⌜ Startable (asked form (p0 ∷ p1 ∷ p2 ∷ p3 ∷ []) skip) (storesOf (now page) (now legends) (now tables)) ⌝ }
         ensures { λ r. ⌜ outcome r [] (storesOf (now (page .exit)) (now (legends .exit)) (now (tables .exit)))
-            ≡ record { answer = only Accepted 0; buffer = []; world = startWorld (asked form (p0 ∷ p1 ∷ p2 ∷ p3 ∷ [])) } ⌝ }
+            ≡ record { answer = only Accepted 0; buffer = []; world = startWorld (asked form (p0 ∷ p1 ∷ p2 ∷ p3 ∷ []) skip) } ⌝ }
     {
         let fixed = Fixed {
             length: form as u16,
             pitches: [p0 as u8, p1 as u8, p2 as u8, p3 as u8],
+            old: skip == Fixed::OLD_WAY,
         };
         seq::fill(page, 0);
         seq::fill(legends, 0);

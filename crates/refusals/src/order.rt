@@ -25,7 +25,7 @@ ghost use Rattle.calls.specs.Commands.{issued};
 ghost use Rattle.calls.specs.Contents.{coreOk};
 ghost use Rattle.calls.specs.Effects.{loadCheck};
 ghost use Rattle.calls.specs.Calls.{badRecord, checkOf, commandTests, composeTests, releaseTests, tallyTests};
-ghost use Rattle.calls.specs.Start.{asked, startRefusal};
+ghost use Rattle.calls.specs.Start.{asked, skipOk, startRefusal};
 
 fn bad_record(command: Command, sent: &[u8]) -> bool
     ensures { λ r. ⌜ ((b : ℕ) (reply : List ℕ) → r ≡ badRecord command (issued b (now (sent .entry)) reply)) ⌝ }
@@ -153,14 +153,28 @@ pub fn tally_refusal(counters: Counters, tally: Tally) -> Refusal
     Refusal::Accepted
 }
 
-// Refusal 9: a store has a wrong size, as `sized` says. 10: the form length or a pitch is not listed.
-pub fn start_refusal(sized: bool, form: u32, p0: u32, p1: u32, p2: u32, p3: u32) -> Refusal
-    ensures { λ r. ⌜ ((m : Stores) → sizesOk m ≡ sized → r ≡ startRefusal (asked form (p0 ∷ p1 ∷ p2 ∷ p3 ∷ [])) m) ⌝ }
+fn skip_ok(skip: u32) -> bool
+    ensures { λ r. ⌜ r ≡ skipOk skip ⌝ }
+{
+    (skip == Fixed::NEW_WAY) | (skip == Fixed::OLD_WAY)
+}
+
+// Refusal 9: a store has a wrong size, as `sized` says. 10: the form length, a pitch or the way of skipping is not listed.
+pub fn start_refusal(
+    sized: bool,
+    form: u32,
+    p0: u32,
+    p1: u32,
+    p2: u32,
+    p3: u32,
+    skip: u32,
+) -> Refusal
+    ensures { λ r. ⌜ ((m : Stores) → sizesOk m ≡ sized → r ≡ startRefusal (asked form (p0 ∷ p1 ∷ p2 ∷ p3 ∷ []) skip) m) ⌝ }
 {
     if !sized {
         return Refusal::BadStore;
     }
-    if !form::fcb::form_ok(form, p0, p1, p2, p3) {
+    if !(form::fcb::form_ok(form, p0, p1, p2, p3) & skip_ok(skip)) {
         return Refusal::BadForm;
     }
     Refusal::Accepted

@@ -300,6 +300,7 @@ fn begin(
     p1: u32,
     p2: u32,
     p3: u32,
+    skip: u32,
     state: &mut [u8],
     page: &mut [u8],
     legends: &mut [u8],
@@ -307,14 +308,14 @@ fn begin(
 ) -> Answer
     requires { ⌜ length (now state) ≡ stateSize ⌝ }
     ensures { λ r. ⌜ left r [] (now (state .exit)) (storesOf (now (page .exit)) (now (legends .exit)) (now (tables .exit)))
-        ≡ shown (startOutcome (asked form (p0 ∷ p1 ∷ p2 ∷ p3 ∷ []))
+        ≡ shown (startOutcome (asked form (p0 ∷ p1 ∷ p2 ∷ p3 ∷ []) skip)
         (storesOf (now (page .entry)) (now (legends .entry)) (now (tables .entry)))) ⌝ }
 {
     let sized = judge::sizes_ok(page, legends, tables);
-    let refusal = order::start_refusal(sized, form, p0, p1, p2, p3);
+    let refusal = order::start_refusal(sized, form, p0, p1, p2, p3, skip);
     if refusal.is_accepted() {
         return codec::put_all(
-            Printer::NONE.start(form, p0, p1, p2, p3, page, legends, tables),
+            Printer::NONE.start(form, p0, p1, p2, p3, skip, page, legends, tables),
             state,
         );
     }
@@ -327,19 +328,20 @@ pub fn start(
     p1: u32,
     p2: u32,
     p3: u32,
+    skip: u32,
     state: &mut [u8],
     page: &mut [u8],
     legends: &mut [u8],
     tables: &mut [u8],
 ) -> u64
     ensures { λ r. ⌜ called r [] (now (state .exit)) (storesOf (now (page .exit)) (now (legends .exit)) (now (tables .exit)))
-        ≡ startBytes (asked form (p0 ∷ p1 ∷ p2 ∷ p3 ∷ [])) (now (state .entry))
+        ≡ startBytes (asked form (p0 ∷ p1 ∷ p2 ∷ p3 ∷ []) skip) (now (state .entry))
         (storesOf (now (page .entry)) (now (legends .entry)) (now (tables .entry))) ⌝ }
 {
     if state.len() != Printer::STATE_BYTES {
         return answer::unread();
     }
-    answer::pack(begin(form, p0, p1, p2, p3, state, page, legends, tables))
+    answer::pack(begin(form, p0, p1, p2, p3, skip, state, page, legends, tables))
 }
 
 // Feet of paper: no printer is asked.

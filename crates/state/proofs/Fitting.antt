@@ -16,7 +16,7 @@ use Rattle.numbers.proofs.Laws.{faulty, accepted-is, facts}
 use Rattle.movement.specs.declared.Motion.{Motion}
 use Rattle.movement.specs.declared.Motion.the-variants.{Space, Skip}
 use Rattle.movement.specs.declared.Moved.{Moved}
-use Rattle.movement.specs.Movement.{Spot, entered, spaced, moved}
+use Rattle.movement.specs.Movement.{Spot, entered, spaced, moved, still}
 use Rattle.movement.proofs.MovementLaws.{skipped-most}
 use Rattle.line.specs.declared.Causes.{Causes}
 use Rattle.line.specs.Line.{causeByte}
@@ -29,10 +29,11 @@ use Rattle.calls.specs.declared.Command.the-variants.{Write, Move, Controls, Lo
 use Rattle.calls.specs.Core.{Stores, Core, World, linesNow}
 use Rattle.calls.specs.Commands.{Issued}
 use Rattle.calls.specs.Contents.{coreOk}
-use Rattle.calls.specs.Effects.{Effect, refused, done, moveOf}
+use Rattle.calls.specs.Effects.{Effect, refused, done, moveOf, atOnce}
 use Rattle.calls.specs.Calls.{Call, command, compose, release, tally, movement, refusalOf, copyAt, doCompose, doRelease, doTally, perform, sizeOf, effect, Outcome, step}
 use Rattle.calls.specs.Start.{Asked, startRefusal, startOutcome}
 use Rattle.calls.specs.Premises.{Allowed}
+use Rattle.calls.proofs.Standing.{at-once-has}
 use Rattle.calls.proofs.Good.{good, few-now}
 use Rattle.calls.proofs.Accepted.{allowed, composable}
 use Rattle.calls.proofs.Refused.{by-outcome}
@@ -75,10 +76,14 @@ module _ (k : Core) (ok : coreOk k ≡ true) where
       let s = good k ok .sheet in
       omega (arith, few-now k (good k ok), moved-few (linesNow (k .state)) (k .state .sheet .line) m (s .low) (s .high))
 
+  at-once-few : (m : Motion) → atOnce (k .state) m .lines < 256
+  unfolding still
+  at-once-few m = at-once-has (λ (v : Moved). v .lines < 256) (k .state) m (lit≤ tt) (move-few m)
+
   movement-few : (c : Command) → movement k c .lines < 256
   unfolding movement
   movement-few (Write m) = move-few m
-  movement-few (Move m) = move-few m
+  movement-few (Move m) = at-once-few m
   movement-few (Controls c) = rw (lines-of-no-move k (Controls c) refl) (lit≤ tt)
   movement-few (Loads l) = rw (lines-of-no-move k (Loads l) refl) (lit≤ tt)
   movement-few Unlisted = rw (lines-of-no-move k Unlisted refl) (lit≤ tt)

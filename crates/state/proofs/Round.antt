@@ -21,7 +21,7 @@ use Rattle.calls.specs.declared.State.{State}
 use Rattle.calls.specs.Core.{withCounters}
 use Rattle.calls.specs.Premises.{Sized}
 use Rattle.printer.specs.declared.Printer.{Printer}
-use Rattle.printer.specs.Layout.{lengthAt, blockedAt, loadedAt, sheetAt, writtenAt, waitingAt, dueAt, pairsAt, fcbAt, channelAt, transferAt, fuserAt, stackerAt, stateSize}
+use Rattle.printer.specs.Layout.{lengthAt, skipAt, blockedAt, loadedAt, sheetAt, writtenAt, waitingAt, dueAt, pairsAt, fcbAt, channelAt, transferAt, fuserAt, stackerAt, stateSize}
 use Rattle.state.specs.State.{sheetBytes, smallBytes, bytesOf, printerBytes, stateAt, senseAt, readable, flagPlaces, byteAt, flagAt, pairAt, Bytes, counterBytes, OwnSheet, SameArrays, OwnCounters}
 
 -- a flag as a byte, and back
@@ -147,6 +147,7 @@ back s h e =
       ends s h (readable-size s e),
       high s h lengthAt,
       low s h lengthAt,
+      flag-at s e skipAt refl,
       flag-at s e blockedAt refl,
       flag-at s e loadedAt refl,
       flag-at s e (loadedAt + 1) refl,

@@ -17,7 +17,7 @@ use Rattle.calls.specs.declared.Sheet.{Sheet}
 use Rattle.calls.specs.declared.State.{State}
 use Rattle.calls.specs.Core.{Stores, Core, World, withSheet, withCounters}
 use Rattle.printer.specs.declared.Printer.{Printer}
-use Rattle.printer.specs.Layout.{lengthAt, pitchesAt, blockedAt, fcbCountAt, loadedAt, selectedAt, pairCountAt, referenceAt, sheetAt, writtenAt, waitingAt, dueAt, sense0At, pairsAt, fcbAt, channelAt, transferAt, fuserAt, stackerAt, stateSize}
+use Rattle.printer.specs.Layout.{lengthAt, pitchesAt, skipAt, blockedAt, fcbCountAt, loadedAt, selectedAt, pairCountAt, referenceAt, sheetAt, writtenAt, waitingAt, dueAt, sense0At, pairsAt, fcbAt, channelAt, transferAt, fuserAt, stackerAt, stateSize}
 
 -- Up to the sheet: all that most commands leave as it is. A flag is 1 or 0.
 abbrev pub frontBytes : State → List ℕ
@@ -28,6 +28,7 @@ frontBytes s =
     ∷ getD (s .fixed .pitches) 1 0
     ∷ getD (s .fixed .pitches) 2 0
     ∷ getD (s .fixed .pitches) 3 0
+    ∷ boolByte (s .fixed .old)
     ∷ boolByte (s .blocked)
     ∷ s .forms .count
     ∷ boolByte (getD (s .slots .loaded) 0 false)
@@ -99,6 +100,7 @@ stateAt s =
           record {
             length = pairAt s lengthAt;
             pitches = byteAt s pitchesAt ∷ byteAt s (pitchesAt + 1) ∷ byteAt s (pitchesAt + 2) ∷ byteAt s (pitchesAt + 3) ∷ [];
+            old = flagAt s skipAt;
           };
       blocked = flagAt s blockedAt;
       forms = record { fcb = take fcbSize (drop fcbAt s); count = byteAt s fcbCountAt };
@@ -137,7 +139,7 @@ Bytes s = (n : ℕ) → byteAt s n ≤ 255
 
 -- Bytes that stand for a printer: as many as a state has, and each flag 0 or 1. Every other range is the printer's own to judge.
 abbrev pub flagPlaces : List ℕ
-flagPlaces = blockedAt ∷ loadedAt ∷ (loadedAt + 1) ∷ (loadedAt + 2) ∷ (loadedAt + 3) ∷ writtenAt ∷ waitingAt ∷ dueAt ∷ []
+flagPlaces = skipAt ∷ blockedAt ∷ loadedAt ∷ (loadedAt + 1) ∷ (loadedAt + 2) ∷ (loadedAt + 3) ∷ writtenAt ∷ waitingAt ∷ dueAt ∷ []
 
 unfoldable pub readable : List ℕ → Bool
 readable s = every (eqb (length s) stateSize ∷ all (λ n. leb (byteAt s n) 1) flagPlaces ∷ [])

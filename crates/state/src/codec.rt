@@ -25,13 +25,14 @@ fn flags_ok(s: &[u8]) -> bool
     requires { ⌜ length (now s) ≡ stateSize ⌝ }
     ensures { λ r. ⌜ r ≡ all (λ n. leb (byteAt (now (s .entry)) n) 1) flagPlaces ⌝ }
 {
-    (s[Printer::BLOCKED_AT] <= 1)
-        & ((s[Printer::LOADED_AT] <= 1)
-            & ((s[Printer::LOADED_AT + 1] <= 1)
-                & ((s[Printer::LOADED_AT + 2] <= 1)
-                    & ((s[Printer::LOADED_AT + 3] <= 1)
-                        & ((s[Printer::WRITTEN_AT] <= 1)
-                            & ((s[Printer::WAITING_AT] <= 1) & (s[Printer::DUE_AT] <= 1)))))))
+    (s[Printer::SKIP_AT] <= 1)
+        & ((s[Printer::BLOCKED_AT] <= 1)
+            & ((s[Printer::LOADED_AT] <= 1)
+                & ((s[Printer::LOADED_AT + 1] <= 1)
+                    & ((s[Printer::LOADED_AT + 2] <= 1)
+                        & ((s[Printer::LOADED_AT + 3] <= 1)
+                            & ((s[Printer::WRITTEN_AT] <= 1)
+                                & ((s[Printer::WAITING_AT] <= 1) & (s[Printer::DUE_AT] <= 1))))))))
 }
 
 // Whether bytes stand for a printer.
@@ -64,6 +65,7 @@ pub fn fixed(s: &[u8]) -> Fixed
             s[Printer::PITCHES_AT + 2],
             s[Printer::PITCHES_AT + 3],
         ],
+        old: s[Printer::SKIP_AT] == 1,
     }
 }
 
@@ -176,6 +178,7 @@ fn front_bytes(state: State) -> [u8; Printer::SHEET_AT]
         fixed.pitches[1],
         fixed.pitches[2],
         fixed.pitches[3],
+        fixed.old as u8,
         state.blocked as u8,
         state.forms.count,
         slots.loaded[0] as u8,

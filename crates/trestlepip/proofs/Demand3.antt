@@ -113,7 +113,7 @@ module _ (a : Asked) (m : Stores) (e : isAccepted (startRefusal a m) ≡ true) (
   pairwise p q r (next xs f s) none = absurd (let h : _≡_ {A = ℕ} 0 1 = cc in omega arith)
   pairwise p q r (next xs f s) (next ys g t) = both (same-noted xs ys p q (cc) f g) (pairwise p (cc) (cc) s t)
 
--- Demand 3: from two accepted Starts with the same form and pitches, over whatever bytes and stores, lists of calls with the same deeds since the latest
+-- Demand 3: from two accepted Starts with the same form, pitches and way of skipping, over whatever bytes and stores, lists of calls with the same deeds since the latest
 -- finished reset, which kept the same. trestlepip_start passes four pitches.
 pub demand-3-over-bytes : (a : Asked) (s s′ : List ℕ) (m m′ : Stores) (xs ys : List Call) → length (a .pitches) ≡ 4
     → numberIn (startBytes a s m .answer) ≡ 0

@@ -21,7 +21,7 @@ use Rattle.calls.specs.Core.{Core, World, started}
 use Rattle.calls.specs.Commands.{Issued, decode, controlTraits, traitsOf}
 use Rattle.calls.specs.Contents.{dueOk}
 use Rattle.calls.specs.Reset.{blankSheet, Kept, keptOf, resetState, reset, fresh}
-use Rattle.calls.specs.Effects.{Effect, refused, done, movedSheet, moveOf, writtenSheet, written, atLine1, loaded, doMove, doWrite, doLoad, completing, doControl, doCommand}
+use Rattle.calls.specs.Effects.{Effect, refused, done, movedSheet, moveOf, atOnce, writtenSheet, written, atLine1, loaded, doMove, doWrite, doLoad, completing, doControl, doCommand}
 use Rattle.calls.specs.Calls.{Call, command, compose, release, tally, refusalOf, pageCounted, emptied, released, doRelease, tallying, doTally, perform, effect, step}
 use Rattle.calls.specs.Start.{Asked, startWorld}
 use Rattle.calls.specs.Lists.{worldAfter, counts, Deed, deedOf, finishesReset, Given, given, Since, sinceNow, note, sinceOver, sinceReset}
@@ -70,7 +70,7 @@ loaded-leaves k CopyNumber r = (refl, refl)
 leaves : (k : Core) (c : Command) (i : Issued) → k .state .sheet .due ≡ false → Leaves k c (doCommand k c i)
 unfolding doCommand doControl doWrite doMove doLoad completing done written writtenSheet reset resetState blankSheet movedSheet toTop still refused traitsOf controlTraits commandSwitch controlSwitch
 leaves k (Write m) i d = keeps refl refl (moved-due (writtenSheet (k .state .sheet)) (moveOf (k .state) m) d)
-leaves k (Move m) i d = keeps refl refl (moved-due (k .state .sheet) (moveOf (k .state) m) d)
+leaves k (Move m) i d = keeps refl refl (moved-due (k .state .sheet) (atOnce (k .state) m) d)
 leaves k (Controls NoOp) i d = keeps refl refl d
 leaves k (Controls SenseIo) i d = keeps refl refl d
 leaves k (Controls Initialize) i d = go (started (k .state .sheet)) refl

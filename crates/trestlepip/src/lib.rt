@@ -18,13 +18,14 @@ pub extern "C" fn trestlepip_start(
     pitch1: u32,
     pitch2: u32,
     pitch3: u32,
+    skip: u32,
     state: &mut [u8],
     page: &mut [u8],
     legends: &mut [u8],
     tables: &mut [u8],
 ) -> u64
     ensures { λ r. ⌜ called r [] (now (state .exit)) (storesOf (now (page .exit)) (now (legends .exit)) (now (tables .exit)))
-        ≡ startBytes (asked form (pitch0 ∷ pitch1 ∷ pitch2 ∷ pitch3 ∷ [])) (now (state .entry))
+        ≡ startBytes (asked form (pitch0 ∷ pitch1 ∷ pitch2 ∷ pitch3 ∷ []) skip) (now (state .entry))
         (storesOf (now (page .entry)) (now (legends .entry)) (now (tables .entry))) ⌝ }
 {
     serve::start(
@@ -33,6 +34,7 @@ pub extern "C" fn trestlepip_start(
         pitch1,
         pitch2,
         pitch3,
+        skip,
         state,
         page,
         legends,

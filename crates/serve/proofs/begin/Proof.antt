@@ -20,7 +20,7 @@ abbrev stores : tie.Start → Stores
 stores c = storesOf (c .args .page .now) (c .args .legends .now) (c .args .tables .now)
 
 abbrev wanted : tie.Start → Asked
-wanted c = asked (c .args .form) (c .args .p0 ∷ c .args .p1 ∷ c .args .p2 ∷ c .args .p3 ∷ [])
+wanted c = asked (c .args .form) (c .args .p0 ∷ c .args .p1 ∷ c .args .p2 ∷ c .args .p3 ∷ []) (c .args .skip)
 
 given : (c : tie.After-start-refusal) → let s = c .before .before .before .before .before .before .before .before .before in c .start-refusal .result ≡ startRefusal (wanted s) (stores s)
 given c = c .start-refusal .ensures _ (sym (c .before .sizes-ok .ensures))

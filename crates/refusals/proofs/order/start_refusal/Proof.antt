@@ -15,5 +15,6 @@ start-refusal-spec =
     (tie.spec
     (λ c m s. sym (first-only (hit (ap not s ∙ c .if1 .taken))))
     (λ c κs. search needs)
-    (λ c m s. sym (first-only (pass BadStore (ap not s ∙ c .before .before .if1 .left) (hit (rw (← c .before .form-ok .ensures) (c .if2 .taken))))))
-    (λ c m s. sym (first-only (pass BadStore (ap not s ∙ c .before .before .if1 .left) (pass BadForm (rw (← c .before .form-ok .ensures) (c .if2 .left)) clear)))))
+    (λ c κs. search needs)
+    (λ c m s. sym (first-only (pass BadStore (ap not s ∙ c .before .before .before .if1 .left) (hit (rw (← c .before .before .form-ok .ensures, ← c .before .skip-ok .ensures) (c .if2 .taken))))))
+    (λ c m s. sym (first-only (pass BadStore (ap not s ∙ c .before .before .before .if1 .left) (pass BadForm (rw (← c .before .before .form-ok .ensures, ← c .before .skip-ok .ensures) (c .if2 .left)) clear)))))

@@ -20,4 +20,5 @@ fixed-spec =
     (λ c. search needs)
     (λ c. search needs)
     (λ c. search needs)
-    (λ c. rw (c .before .before .before .before .pair .ensures)))
+    (λ c. search needs)
+    (λ c. rw (c .before .before .before .before .before .pair .ensures)))

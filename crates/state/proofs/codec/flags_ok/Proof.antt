@@ -19,4 +19,5 @@ flags-ok-spec =
     (λ c. search needs)
     (λ c. search needs)
     (λ c. search needs)
+    (λ c. search needs)
     (λ c. simp and-true))
