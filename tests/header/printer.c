@@ -25,7 +25,7 @@ bool accepted(uint64_t answer)
 
 void printer_start(struct printer *p, uint32_t form)
 {
-    check(accepted(trestlepip_start(form, 10, 10, 12, 15, STORES(p))), "not started on a form of length", form);
+    check(accepted(trestlepip_start(form, 10, 10, 12, 15, TRESTLEPIP_NEW_WAY, STORES(p))), "not started on a form of length", form);
 }
 
 uint64_t printer_send(struct printer *p, uint8_t command, const uint8_t *record, size_t length)

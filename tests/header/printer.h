@@ -19,7 +19,7 @@ struct printer {
 /* Whether an answer has number 0. */
 bool accepted(uint64_t answer);
 
-/* Starts a printer whose four modules are fitted. */
+/* Starts a printer whose four modules are fitted, with the new way of skipping. */
 void printer_start(struct printer *p, uint32_t form);
 
 uint64_t printer_send(struct printer *p, uint8_t command, const uint8_t *record, size_t length);

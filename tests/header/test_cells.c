@@ -185,7 +185,8 @@ static void check_modules(struct printer *p)
         uint32_t pitch[TRESTLEPIP_MODULES];
         for (unsigned i = 0; i < TRESTLEPIP_MODULES; i++)
             pitch[i] = i == absent ? 0 : 10;
-        check(accepted(trestlepip_start(FORM, pitch[0], pitch[1], pitch[2], pitch[3], STORES(p))), "not started without module", absent);
+        uint64_t answer = trestlepip_start(FORM, pitch[0], pitch[1], pitch[2], pitch[3], TRESTLEPIP_NEW_WAY, STORES(p));
+        check(accepted(answer), "not started without module", absent);
         for (unsigned i = 0; i < TRESTLEPIP_MODULES; i++)
             check(p->state[TRESTLEPIP_AT_PITCH + i] == pitch[i], "the pitch of module", i);
         printer_load_codes(p);

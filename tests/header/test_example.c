@@ -57,7 +57,7 @@ static bool is_kept(void)
 
 int main(void)
 {
-    bool good = is_good(trestlepip_start(FORM, 10, 10, 10, 10, STORES))
+    bool good = is_good(trestlepip_start(FORM, 10, 10, 10, 10, TRESTLEPIP_NEW_WAY, STORES))
         && send_old_page() && send_command(TRESTLEPIP_INITIALIZE, NULL, 0) && send_new_page() && is_stopped() && is_kept();
     printf(good ? "as it should be\n" : "not as it should be\n");
     return good ? 0 : 1;

@@ -160,11 +160,14 @@ static bool is_so(const char *claim)
     return begins(claim, "reply ") && gives_reply(claim + strlen("reply "));
 }
 
+/* The page gives the form and the pitches; its skips go the new way. */
 static void start(const char *numbers)
 {
+    struct printer *p = &session.printer;
     unsigned form, pitch[TRESTLEPIP_MODULES];
     bool read = sscanf(numbers, "%u %u %u %u %u", &form, &pitch[0], &pitch[1], &pitch[2], &pitch[3]) == 1 + TRESTLEPIP_MODULES;
-    check(read && accepted(trestlepip_start(form, pitch[0], pitch[1], pitch[2], pitch[3], STORES(&session.printer))), "not started: line", session.line);
+    bool started = read && accepted(trestlepip_start(form, pitch[0], pitch[1], pitch[2], pitch[3], TRESTLEPIP_NEW_WAY, STORES(p)));
+    check(started, "not started: line", session.line);
 }
 
 /* More bytes of the example at hand, or of the next one if this is sent. */
