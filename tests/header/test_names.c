@@ -1,7 +1,7 @@
 /*
  * The names of the header that crates/tables/stdout does not have, held to the library: the bits of status and sense, the locations, the counts in the
- * state, and the most pages between two counters. tools/tables asks that each of them stands here or in test_cells.c. The feet of a page, by the reader
- * of the channel's counter. The texts of trestlepip_text.h: one for each number, cause and data check.
+ * state, the ways of skipping, and the most pages between two counters. tools/tables asks that each of them stands here or in test_cells.c. The feet of a
+ * page, by the reader of the channel's counter. The texts of trestlepip_text.h: one for each number, cause and data check.
  */
 #include "printer.h"
 #include "trestlepip_text.h"
@@ -9,7 +9,7 @@
 #include <stdio.h>
 #include <string.h>
 
-enum { FORM = 84, FCB_BYTES = 21, STEPS = 3, RECORD = 24, TABLE = 256, BYTES = 256 };
+enum { FORM = 84, FCB_BYTES = 21, AT_LINE_1 = 3, LINES = 15, STEPS = 3, RECORD = 24, TABLE = 256, BYTES = 256 };
 
 /* What a command's status and the sense after it are to be, with the commands that lead there. */
 struct row {
@@ -46,6 +46,7 @@ static const struct row rows[] = {
         {TRESTLEPIP_SENSE_0_DATA_CHECK, TRESTLEPIP_SENSE_1_NO_TABLE, 0, TRESTLEPIP_SENSE_3_READY}},
     {"no match", {WITHOUT_RECORD(TRESTLEPIP_SKIP(2))}, 1, CHECKED,
         {TRESTLEPIP_SENSE_0_DATA_CHECK, TRESTLEPIP_SENSE_1_NO_MATCH, 0, TRESTLEPIP_SENSE_3_READY}},
+    {"a skip that stands", {WITHOUT_RECORD(0x00), WITHOUT_RECORD(TRESTLEPIP_SKIP(1))}, 2, TRESTLEPIP_STATUS_ENDED, {0, 0, 0, IDLE}},
     {"multiple", {A_LETTER, ANOTHER_LETTER}, 2, CHECKED, {TRESTLEPIP_SENSE_0_DATA_CHECK, TRESTLEPIP_SENSE_1_MULTIPLE, 0, TRESTLEPIP_SENSE_3_READY}},
     {"unprintable hidden", {WITHOUT_RECORD(TRESTLEPIP_BLOCK), NO_LETTER}, 2, TRESTLEPIP_STATUS_ENDED,
         {0, 0, 0, TRESTLEPIP_SENSE_3_READY | TRESTLEPIP_SENSE_3_BLOCKED}},
@@ -200,7 +201,7 @@ static void check_skip(struct printer *p, uint8_t command, unsigned channel)
     uint8_t fcb[FCB_BYTES] = {0};
     static const uint8_t letter[] = {0xC1};
     for (unsigned i = 1; i <= 12; i++)
-        fcb[3 + i] = (uint8_t)i;
+        fcb[AT_LINE_1 + i] = (uint8_t)i;
     printer_start(p, FORM);
     printer_send(p, TRESTLEPIP_LOAD_FCB, fcb, sizeof fcb);
     uint64_t answer = printer_send(p, command, letter, sizeof letter);
@@ -215,6 +216,80 @@ static void check_skips(struct printer *p)
     for (unsigned channel = 1; channel <= 12; channel++) {
         check_skip(p, (uint8_t)TRESTLEPIP_WRITE_SKIP(channel), channel);
         check_skip(p, (uint8_t)TRESTLEPIP_SKIP(channel), channel);
+    }
+}
+
+/* What a skip moves: lines, and whether it completes a page. */
+struct move {
+    unsigned lines, ready;
+};
+
+/*
+ * Commands, and what the last of them moves in the new way and in the old. Line 1 has channel 1, lines 3 and 7 have channel 2. Each command is sent with a
+ * letter, which only a write takes.
+ */
+static const struct way_row {
+    const char *what;
+    uint8_t commands[STEPS];
+    unsigned count;
+    struct move new, old;
+} way_rows[] = {
+    {"nothing written", {TRESTLEPIP_SKIP(1)}, 1, {0, 0}, {LINES, 1}},
+    {"the line written", {TRESTLEPIP_WRITE_NO_SPACE, TRESTLEPIP_SKIP(1)}, 2, {LINES, 1}, {LINES, 1}},
+    {"the line written before another command", {TRESTLEPIP_WRITE_NO_SPACE, TRESTLEPIP_SELECT_0, TRESTLEPIP_SKIP(1)}, 3, {LINES, 1}, {LINES, 1}},
+    {"a write and skip", {TRESTLEPIP_WRITE_SKIP(1)}, 1, {LINES, 1}, {LINES, 1}},
+    {"another channel", {TRESTLEPIP_SKIP(2)}, 1, {2, 0}, {2, 0}},
+    {"a channel that no line has", {TRESTLEPIP_SKIP(3)}, 1, {LINES, 1}, {LINES, 1}},
+    {"a line without a channel", {TRESTLEPIP_SPACE_1, TRESTLEPIP_SKIP(1)}, 2, {LINES - 1, 1}, {LINES - 1, 1}},
+    {"the same skip again", {TRESTLEPIP_SKIP(2), TRESTLEPIP_SKIP(2)}, 2, {0, 0}, {4, 0}},
+    {"another line written", {TRESTLEPIP_WRITE_SPACE_2, TRESTLEPIP_SKIP(2)}, 2, {0, 0}, {4, 0}},
+    {"after Initialize", {TRESTLEPIP_INITIALIZE, TRESTLEPIP_SKIP(1)}, 2, {0, 0}, {LINES, 1}},
+};
+
+enum { WAY_ROWS = sizeof way_rows / sizeof *way_rows };
+
+static uint64_t start_with_way(struct printer *p, uint32_t way)
+{
+    return trestlepip_start(FORM, 10, 10, 12, 15, way, STORES(p));
+}
+
+/* A skip that moves nothing leaves the state and the stores as they were. */
+static void check_way(struct printer *p, uint32_t way, const struct way_row *row, struct move move)
+{
+    static const uint8_t fcb[FCB_BYTES] = {[AT_LINE_1] = 1, [AT_LINE_1 + 2] = 2, [AT_LINE_1 + 6] = 2}, letter[] = {0xC1};
+    static struct printer before;
+    uint64_t answer = start_with_way(p, way);
+    check(accepted(answer), "not started with way", way);
+    printer_send(p, TRESTLEPIP_LOAD_FCB, fcb, sizeof fcb);
+    for (unsigned i = 0; i < row->count; i++) {
+        before = *p;
+        answer = printer_send(p, row->commands[i], letter, sizeof letter);
+    }
+    check(accepted(answer) && trestlepip_lines(answer) == move.lines && trestlepip_ready(answer) == move.ready, row->what, way);
+    check(move.lines > 0 || memcmp(&before, p, sizeof before) == 0, row->what, way);
+    check(p->state[TRESTLEPIP_AT_SKIP] == way, "another way in the state than", way);
+}
+
+static void check_ways(struct printer *p)
+{
+    for (unsigned row = 0; row < WAY_ROWS; row++) {
+        check_way(p, TRESTLEPIP_NEW_WAY, &way_rows[row], way_rows[row].new);
+        check_way(p, TRESTLEPIP_OLD_WAY, &way_rows[row], way_rows[row].old);
+    }
+}
+
+/* Any other way is refused, also one that would be a way in one, two or three bytes; a wrong size comes before it. */
+static void check_no_ways(struct printer *p)
+{
+    static const uint32_t no_ways[] = {2, 3, 255, 256, 257, 0x00010000, 0x00010001, 0x01000000, 0x01000001, 0x80000000, 0x80000001, UINT32_MAX};
+    static const uint8_t zeros[TRESTLEPIP_STATE_BYTES];
+    for (size_t i = 0; i < sizeof no_ways / sizeof *no_ways; i++) {
+        printer_start(p, FORM);
+        check(start_with_way(p, no_ways[i]) == TRESTLEPIP_BAD_FORM, "another answer to way", no_ways[i]);
+        check(memcmp(p->state, zeros, sizeof zeros) == 0, "a state other than zeros after way", no_ways[i]);
+        uint64_t answer = trestlepip_start(FORM, 10, 10, 12, 15, no_ways[i], p->state, sizeof p->state, p->page, sizeof p->page - 1,
+                p->legends, sizeof p->legends, p->tables, sizeof p->tables);
+        check(answer == TRESTLEPIP_BAD_STORE, "another answer to a short page and way", no_ways[i]);
     }
 }
 
@@ -251,7 +326,10 @@ int main(void)
     check_paper(&p);
     check_end(&p);
     check_skips(&p);
+    check_ways(&p);
+    check_no_ways(&p);
     check_all_texts();
-    printf("names: %u rows of status and sense, slots, skips, most pages, a page's feet and texts, %u faults\n", (unsigned)ROWS, faults());
+    printf("names: %u rows of status and sense, %u rows of skips in two ways, slots, skips, most pages, a page's feet and texts, %u faults\n",
+            (unsigned)ROWS, (unsigned)WAY_ROWS, faults());
     return faults() == 0 ? 0 : 1;
 }
