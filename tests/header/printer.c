@@ -54,6 +54,19 @@ void printer_release(struct printer *p)
     check(counted, "not released and stacked: the page after", trestlepip_stacker_page(p->state));
 }
 
+unsigned printer_refusals(struct printer *p)
+{
+    static uint8_t out[TRESTLEPIP_PAGE_BYTES];
+    const uint64_t answers[PRINTER_CALLS] = {
+        printer_send(p, TRESTLEPIP_NO_OP, NULL, 0), trestlepip_compose(1, out, sizeof out, STORES(p)), trestlepip_release(STORES(p)),
+        trestlepip_transferred(STORES(p)), trestlepip_fused(STORES(p)), trestlepip_stacked(STORES(p)), trestlepip_cancel(STORES(p)),
+        trestlepip_restart(STORES(p))};
+    unsigned refused = 0;
+    for (unsigned i = 0; i < PRINTER_CALLS; i++)
+        refused += trestlepip_number(answers[i]) == TRESTLEPIP_BAD_STORE;
+    return refused;
+}
+
 static void set_counter(uint8_t *bytes, unsigned counter)
 {
     bytes[0] = (uint8_t)(counter / 256);

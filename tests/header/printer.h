@@ -33,6 +33,10 @@ void printer_complete(struct printer *p);
 /* Releases the page that waits, and reports it past each station as a host does: without that no page is released after TRESTLEPIP_MOST_PAGES. */
 void printer_release(struct printer *p);
 
+/* Makes every call that is lent the stores, except Start. Returns how many of the PRINTER_CALLS get TRESTLEPIP_BAD_STORE. */
+enum { PRINTER_CALLS = 8 };
+unsigned printer_refusals(struct printer *p);
+
 /* Sets the page counters, each modulo 65,536. */
 void printer_set_counters(struct printer *p, unsigned channel, unsigned transfer, unsigned fuser, unsigned stacker);
 

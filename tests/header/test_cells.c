@@ -145,17 +145,11 @@ static void check_piles(struct printer *p)
 /* Every call except Start refuses a mark above 1; a code may be anything. */
 static void check_bad_mark(struct printer *p, size_t cell, unsigned value)
 {
-    static uint8_t out[TRESTLEPIP_PAGE_BYTES];
     printer_start(p, FORM);
     p->page[cell * TRESTLEPIP_CELL_BYTES] = (uint8_t)value;
     check(accepted(printer_send(p, TRESTLEPIP_NO_OP, NULL, 0)), "a code refused", value);
     p->page[cell * TRESTLEPIP_CELL_BYTES + 1] = (uint8_t)value;
-    const uint64_t answers[] = {
-        printer_send(p, TRESTLEPIP_NO_OP, NULL, 0), trestlepip_compose(1, out, sizeof out, STORES(p)), trestlepip_release(STORES(p)),
-        trestlepip_transferred(STORES(p)), trestlepip_fused(STORES(p)), trestlepip_stacked(STORES(p)), trestlepip_cancel(STORES(p)),
-        trestlepip_restart(STORES(p))};
-    for (unsigned i = 0; i < sizeof answers / sizeof *answers; i++)
-        check((trestlepip_number(answers[i]) == TRESTLEPIP_BAD_STORE) == (value > 1), "another answer to mark", value);
+    check(printer_refusals(p) == (value > 1 ? PRINTER_CALLS : 0), "another answer to mark", value);
 }
 
 /* In the first cell, in the last of line P and the first after it, and in the last of all. */

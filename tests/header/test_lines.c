@@ -1,4 +1,7 @@
-/* trestlepip_printable_lines beside the library: P of many FCBs on every form, and 0 exactly for the states that the library refuses with 9. */
+/*
+ * trestlepip_printable_lines beside the library: P of many FCBs on every form, and 0 exactly for the states that the library refuses with 9. A way of
+ * skipping above 1 is one of these.
+ */
 #include "printer.h"
 
 #include <stdio.h>
@@ -183,10 +186,25 @@ static void make_good(struct printer *p, enum good_states which)
         printer_set_counters(p, 0xFFFE + TRESTLEPIP_MOST_PAGES, 0x0102, 0x00FF, 0xFFFE);
 }
 
+/* The two ways are good, and every other is refused by every call. */
+static void damage_way(struct printer *p)
+{
+    static struct printer kept;
+    kept = *p;
+    for (unsigned way = 0; way < 256; way++) {
+        bool good = way == TRESTLEPIP_NEW_WAY || way == TRESTLEPIP_OLD_WAY;
+        p->state[TRESTLEPIP_AT_SKIP] = (uint8_t)way;
+        check((trestlepip_printable_lines(p->state) > 0) == good, "other lines than the state has with way", way);
+        check(printer_refusals(p) == (good ? 0 : PRINTER_CALLS), "another answer to way", way);
+        *p = kept;
+    }
+}
+
 static void damage(struct printer *p, enum good_states which)
 {
     make_good(p, which);
     check(trestlepip_printable_lines(p->state) > 0, "no good state", which);
+    damage_way(p);
     damage_bytes(p);
     for (unsigned i = 0; i < PAIRS; i++)
         damage_pair(p);
