@@ -112,9 +112,17 @@ static inline uint64_t move(struct printer *p, struct findings found, struct mov
     return accepted(p, found, m);
 }
 
+/* T-05: in the new way an immediate skip stands at its own channel, unless the line is written. */
+static inline bool stands(const struct printer *p, unsigned channel)
+{
+    return p->way == TRESTLEPIP_NEW_WAY && (p->flags & WRITTEN) == 0 && p->channel[p->line - 1] == channel;
+}
+
 static inline uint64_t move_on(struct printer *p, struct command c, unsigned lines)
 {
-    return move(p, nothing, c.kind == SPACE_NOW ? space(p, lines, c.n) : skip(p, lines, c.n));
+    if (c.kind == SPACE_NOW)
+        return move(p, nothing, space(p, lines, c.n));
+    return stands(p, c.n) ? stand(p, nothing) : move(p, nothing, skip(p, lines, c.n));
 }
 
 static inline uint64_t write_and_move(struct printer *p, struct command c, unsigned lines, const uint8_t *record, size_t n,
@@ -142,7 +150,7 @@ static void starting_fcb(struct printer *p)
     p->channel[0] = 1;
 }
 
-/* Reset and sense: all but the page, the check switch and the sense. */
+/* Reset and sense: all but the page, the way of skipping, the check switch and the sense. */
 static void reset(struct printer *p, uint8_t *legends, uint8_t *tables)
 {
     memset(legends, 0, LEGEND_BYTES);
@@ -291,7 +299,7 @@ static inline bool form_listed(uint32_t form)
 
 /* Numbers: 9 by sizes, then 10. A refused Start leaves a state of zeros. */
 uint64_t plain_start(uint32_t form,
-        uint32_t pitch0, uint32_t pitch1, uint32_t pitch2, uint32_t pitch3,
+        uint32_t pitch0, uint32_t pitch1, uint32_t pitch2, uint32_t pitch3, uint32_t way,
         uint8_t *state, size_t state_len, uint8_t *page, size_t page_len,
         uint8_t *legends, size_t legends_len, uint8_t *tables, size_t tables_len)
 {
@@ -302,10 +310,11 @@ uint64_t plain_start(uint32_t form,
     if (page_len != PAGE_BYTES || legends_len != LEGEND_BYTES || tables_len != TABLE_BYTES)
         return answer(TRESTLEPIP_BAD_STORE, 0);
     const unsigned bits[4] = { pitch_bits(pitch0), pitch_bits(pitch1), pitch_bits(pitch2), pitch_bits(pitch3) };
-    if (!form_listed(form) || bits[0] == 0 || (bits[0] | bits[1] | bits[2] | bits[3]) > 3)
+    if (!form_listed(form) || bits[0] == 0 || (bits[0] | bits[1] | bits[2] | bits[3]) > 3 || way > TRESTLEPIP_OLD_WAY)
         return answer(TRESTLEPIP_BAD_FORM, 0);
     p->halves = (uint8_t)(form / HALF_INCH);
     p->pitches = (uint8_t)(bits[0] | bits[1] << 2 | bits[2] << 4 | bits[3] << 6);
+    p->way = (uint8_t)way;
     memset(page, 0, PAGE_BYTES);
     reset(p, legends, tables);
     return answer(TRESTLEPIP_ACCEPTED, 0);

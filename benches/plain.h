@@ -7,11 +7,11 @@
 
 #include "../tests/exports.h"
 
-#define PLAIN_STATE_BYTES 205
+#define PLAIN_STATE_BYTES 206
 
 /* The places of the selected slot and of the page counters in the state. */
 #define PLAIN_STATE_SELECTED 3
-#define PLAIN_STATE_COUNTERS 197
+#define PLAIN_STATE_COUNTERS 198
 
 start_call plain_start;
 command_call plain_command;

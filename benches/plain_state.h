@@ -49,6 +49,7 @@ struct printer {
     uint8_t spacing[HALVES];    /* lines in each half inch, 00 after the form */
     uint8_t channel[CHANNELS];  /* of each printable line, 00 after the last */
     uint8_t sense[SENSE_KEPT];  /* bytes 0, 1, 2, 22, 23 */
+    uint8_t way;                /* of skipping, T-05 */
     uint8_t counters[2 * COUNTERS]; /* high bytes first */
 };
 
@@ -154,7 +155,7 @@ static inline unsigned lines_of(const struct printer *p)
     if (!halves_listed(p->halves) || spacing_bad(p->spacing, p->halves))
         return 0;
     unsigned lines = printable(p);
-    bool singles = (p->pitches & 3) == 0 || p->selected > 3 || p->reference == 0 || p->line == 0 || p->line > lines;
+    bool singles = (p->pitches & 3) == 0 || p->way > TRESTLEPIP_OLD_WAY || p->selected > 3 || p->reference == 0 || p->line == 0 || p->line > lines;
     return singles || flags_bad(p->flags) || pairs_bad(p) || counters_bad(p) || channels_bad(p->channel, lines) ? 0 : lines;
 }
 

@@ -30,11 +30,11 @@ static uint64_t side_feet(struct side *s, uint32_t form, const struct sum *sum)
     return s->program->exports.feet(sum->initial, sum->final, sum->copies, form, &s->feet);
 }
 
-/* Start fits all four modules. */
+/* Start fits all four modules, and takes the new way of skipping. */
 uint64_t side_call(struct side *s, const struct call *c)
 {
     switch (c->kind) {
-    case CALL_START: return s->program->exports.start(c->number, 10, 10, 12, 15, STORES);
+    case CALL_START: return s->program->exports.start(c->number, 10, 10, 12, 15, TRESTLEPIP_NEW_WAY, STORES);
     case CALL_COMMAND: return s->program->exports.command((uint8_t)c->number, c->record, c->record_len, s->reply, TRESTLEPIP_SENSE_BYTES, STORES);
     case CALL_COMPOSE: return s->program->exports.compose(c->number, s->out, TRESTLEPIP_PAGE_BYTES, STORES);
     case CALL_RELEASE: return s->program->exports.release(STORES);
