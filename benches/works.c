@@ -207,6 +207,15 @@ static void make_page(struct making *m)
     w->parts = 1;
 }
 
+/* At line 1, which has channel 1, with nothing written: it changes nothing, so that the same skip can follow. */
+static void make_standing_skip(struct making *m)
+{
+    struct work *w = next_work(m);
+    snprintf(w->name, sizeof w->name, "immediate skip that stands");
+    ready_form(w, FORM, 6);
+    measure_often(w, 100, CALL_COMMAND, 0x8B, NULL, 0);
+}
+
 static void make_reports(struct making *m)
 {
     struct work *w = next_work(m);
@@ -336,6 +345,7 @@ size_t works_make(struct work *works)
     make_pair(&m, "a total and its rule", m.total, m.rule, 132);
     make_pair(&m, "a total and its rule", m.total, m.rule, 204);
     make_page(&m);
+    make_standing_skip(&m);
     make_reports(&m);
     make_giving_up(&m, "cancel", CALL_CANCEL);
     make_giving_up(&m, "restart", CALL_RESTART);

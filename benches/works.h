@@ -21,7 +21,7 @@ struct work {
     bool limited;   /* its composing, by the time that memcpy takes for those bytes: MEMCPY_LIMIT of bench.c */
 };
 
-enum { WORKS_MOST = 48 };
+enum { WORKS_MOST = 50 };
 
 /* Fills the works and gives their number. */
 size_t works_make(struct work *works);
