@@ -30,11 +30,17 @@ static uint64_t side_feet(struct side *s, uint32_t form, const struct sum *sum)
     return s->program->exports.feet(sum->initial, sum->final, sum->copies, form, &s->feet);
 }
 
-/* Start fits all four modules, and takes the new way of skipping. */
+/* All four modules are fitted. */
+static uint64_t side_start(struct side *s, uint32_t form, enum trestlepip_ways way)
+{
+    return s->program->exports.start(form, 10, 10, 12, 15, way, STORES);
+}
+
 uint64_t side_call(struct side *s, const struct call *c)
 {
     switch (c->kind) {
-    case CALL_START: return s->program->exports.start(c->number, 10, 10, 12, 15, TRESTLEPIP_NEW_WAY, STORES);
+    case CALL_START: return side_start(s, c->number, TRESTLEPIP_NEW_WAY);
+    case CALL_OLD_START: return side_start(s, c->number, TRESTLEPIP_OLD_WAY);
     case CALL_COMMAND: return s->program->exports.command((uint8_t)c->number, c->record, c->record_len, s->reply, TRESTLEPIP_SENSE_BYTES, STORES);
     case CALL_COMPOSE: return s->program->exports.compose(c->number, s->out, TRESTLEPIP_PAGE_BYTES, STORES);
     case CALL_RELEASE: return s->program->exports.release(STORES);

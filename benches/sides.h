@@ -13,10 +13,10 @@ enum { COUNTER_BYTES = TRESTLEPIP_AFTER_ALL - TRESTLEPIP_AT_CHANNEL_PAGE };
 enum { STATE_ROOM = 256, OUT_ROOM = TRESTLEPIP_PAGE_BYTES + 64, REPLY_ROOM = TRESTLEPIP_SENSE_BYTES + 8, CALLS_MOST = 160 };
 
 enum call_kind {
-    CALL_START, CALL_COMMAND, CALL_COMPOSE, CALL_RELEASE, CALL_TRANSFERRED, CALL_FUSED, CALL_STACKED, CALL_CANCEL, CALL_RESTART, CALL_FEET
+    CALL_START, CALL_OLD_START, CALL_COMMAND, CALL_COMPOSE, CALL_RELEASE, CALL_TRANSFERRED, CALL_FUSED, CALL_STACKED, CALL_CANCEL, CALL_RESTART, CALL_FEET
 };
 
-/* One call: `number` is the form length of Start and Feet, the byte of Command, the index of Compose. The record is Command's; of Feet, its sum. */
+/* One call: `number` is the form length of both Starts and Feet, the byte of Command, the index of Compose. The record is Command's; of Feet, its sum. */
 struct call {
     enum call_kind kind;
     uint32_t number;

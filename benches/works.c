@@ -216,6 +216,19 @@ static void make_standing_skip(struct making *m)
     measure_often(w, 100, CALL_COMMAND, 0x8B, NULL, 0);
 }
 
+/* In the old way the same skip goes on over the whole form. */
+static void make_empty_page(struct making *m)
+{
+    struct work *w = next_work(m);
+    snprintf(w->name, sizeof w->name, "empty page: skip in the old way, release");
+    ready(w, CALL_OLD_START, FORM, NULL, 0);
+    w->parts = 40;
+    for (unsigned i = 0; i < w->parts; i++) {
+        measure(w, CALL_COMMAND, 0x8B, NULL, 0);
+        measure(w, CALL_RELEASE, 0, NULL, 0);
+    }
+}
+
 static void make_reports(struct making *m)
 {
     struct work *w = next_work(m);
@@ -346,6 +359,7 @@ size_t works_make(struct work *works)
     make_pair(&m, "a total and its rule", m.total, m.rule, 204);
     make_page(&m);
     make_standing_skip(&m);
+    make_empty_page(&m);
     make_reports(&m);
     make_giving_up(&m, "cancel", CALL_CANCEL);
     make_giving_up(&m, "restart", CALL_RESTART);
