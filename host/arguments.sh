@@ -38,7 +38,7 @@ refuse_arguments() { # MESSAGE WORD...
 }
 
 # The names of the copies, a line each.
-copy_names() { sed -n 's/^COPY("\(.*\)")$/\1/p' "$HOST_DIR/copies.def"; }
+copy_names() { sed -n 's/^COPY("\(.*\)", .*)$/\1/p' "$HOST_DIR/copies.def"; }
 
 all_copies() { copy_names | paste -sd , - | sed 's/,/, /g'; }
 

@@ -19,7 +19,7 @@ struct arguments {
 static unsigned copy_of(const char *name)
 {
     for (unsigned i = 0; name && i < COPIES; i++)
-        if (strcmp(copy_names[i], name) == 0)
+        if (strcmp(copies[i].name, name) == 0)
             return i + 1;
     return 0;
 }
@@ -58,6 +58,12 @@ static enum endings read_weights(struct herd *herd, const char *file)
     return ending;
 }
 
+/* One start serves all copies of a run: a copy has its way if it is printed alone. */
+static uint32_t way_of(unsigned only)
+{
+    return only != 0 ? copies[only - 1].way : TRESTLEPIP_NEW_WAY;
+}
+
 /* A printer takes a form feed between sheets; on a screen an empty line is enough. */
 static enum endings print(const struct arguments *arguments, const struct herd *herd, const struct plan *plan)
 {
@@ -67,7 +73,7 @@ static enum endings print(const struct arguments *arguments, const struct herd *
     spool.only = arguments->only;
     spool.heads = arguments->heads;
     spool.between = isatty(fileno(stdout)) ? "\n" : "\f";
-    spool_start(&spool, FORM_LENGTH);
+    spool_start(&spool, FORM_LENGTH, way_of(spool.only));
     sheets_load(&spool, arguments->date, herd->sample);
     sheets_print(&spool, herd, plan);
     return report_end(&spool, plan);

@@ -13,14 +13,18 @@
 /* How a run ends. */
 enum endings { ALL_GOOD = 0, STOPPED = 1, REFUSED = 2, HOLD_BACK = 3 };
 
-/* The copies of a sheet, as host/copies.def names them. */
-#define COPY(name) +1
+/* The copies of a sheet, as host/copies.def lists them: the name, and the way of skipping that a run of this copy alone asks for. */
+#define COPY(name, way) +1
 enum {
     COPIES = 0
 #include "copies.def"
 };
 #undef COPY
-extern const char *const copy_names[COPIES];
+struct copy {
+    const char *name;
+    uint32_t way;
+};
+extern const struct copy copies[COPIES];
 
 /* The most characters of a place, a tag and a name: the columns of a sheet. A character has up to four bytes in the file. */
 enum { PLACE_WIDTH = 43, TAG_WIDTH = 9, NAME_WIDTH = 18, CHARACTER_BYTES = 4, DATE_WIDTH = 10 };
@@ -101,8 +105,11 @@ struct spool {
 /* The lent buffers of a spool, in the order in which every call takes them. */
 #define STORES(s) (s)->state, sizeof (s)->state, (s)->page, sizeof (s)->page, (s)->legends, sizeof (s)->legends, (s)->tables, sizeof (s)->tables
 
-/* Starts the printer on a form of this length; modules 0 and 1 have the same pitch, so that capitals and small letters stand in line. */
-void spool_start(struct spool *spool, uint32_t form);
+/*
+ * Starts the printer on a form of this length, with this way of skipping; modules 0 and 1 have the same pitch, so that capitals and small letters stand
+ * in line.
+ */
+void spool_start(struct spool *spool, uint32_t form, uint32_t way);
 
 /* Sends a command and prints the page that it completes. After a refusal nothing more is sent. */
 void spool_send(struct spool *spool, uint8_t command, const uint8_t *record, size_t length);

@@ -83,7 +83,7 @@ static void add_legend(struct legends *legends, struct legend legend)
 static void add_copy_names(struct legends *legends)
 {
     for (uint8_t copy = 1; copy <= COPIES; copy++)
-        add_legend(legends, (struct legend){copy, 1, COPY_LINE, LEGENDS_AT, copy_names[copy - 1]});
+        add_legend(legends, (struct legend){copy, 1, COPY_LINE, LEGENDS_AT, copies[copy - 1].name});
 }
 
 /* A load replaces all legends, so they travel in one record, after the table that translates them. */

@@ -1,8 +1,8 @@
 /* What the spooler writes: the composed copies, as text. */
 #include "morning.h"
 
-#define COPY(name) name,
-const char *const copy_names[COPIES] = {
+#define COPY(name, way) {name, way},
+const struct copy copies[COPIES] = {
 #include "copies.def"
 };
 #undef COPY
@@ -79,7 +79,7 @@ static void show_lines(FILE *to, const uint8_t *copy)
 
 static void show_head(const struct spool *spool, unsigned number, unsigned mark)
 {
-    fprintf(spool->sheets, "---- sheet %zu, copy %u (%s), overlay mark %u\n", spool->sheet->number, number, copy_names[number - 1], mark);
+    fprintf(spool->sheets, "---- sheet %zu, copy %u (%s), overlay mark %u\n", spool->sheet->number, number, copies[number - 1].name, mark);
 }
 
 void show_copy(struct spool *spool, uint64_t answer)

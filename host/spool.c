@@ -162,10 +162,10 @@ static void print_page(struct spool *spool)
     spool_pass_stations(spool);
 }
 
-void spool_start(struct spool *spool, uint32_t form)
+void spool_start(struct spool *spool, uint32_t form, uint32_t way)
 {
     begin_call(spool, "start");
-    stop_if_refused(spool, trestlepip_start(form, 10, 10, 12, 15, STORES(spool)));
+    stop_if_refused(spool, trestlepip_start(form, 10, 10, 12, 15, way, STORES(spool)));
     spool->paper.form = form;
     begin_sum(&spool->paper, trestlepip_channel_page(spool->state));
 }

@@ -63,7 +63,7 @@ static void check_started_again(void)
     begin_run();
     print_sheet();
     print_sheet();
-    spool_start(&spool, FORM);
+    spool_start(&spool, FORM, TRESTLEPIP_NEW_WAY);
     print_sheet();
     end_run_with(ALL_GOOD, 3, "", "reported, though good: sheet", 3);
 }

@@ -57,7 +57,7 @@ static void provoke(unsigned number)
         spool_send(&spool, TRESTLEPIP_CLEAR, NULL, 0);
         break;
     case TRESTLEPIP_BAD_FORM:
-        spool_start(&spool, 100);
+        spool_start(&spool, 100, TRESTLEPIP_NEW_WAY);
         break;
     case TRESTLEPIP_NONE_BETWEEN:
         spool_pass_stations(&spool);

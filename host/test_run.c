@@ -60,7 +60,7 @@ void begin_run(void)
     spool.reports = scratch();
     spool.between = "";
     spool.only = 1;
-    spool_start(&spool, FORM);
+    spool_start(&spool, FORM, TRESTLEPIP_NEW_WAY);
 }
 
 void complete_page(void)
