@@ -22,13 +22,15 @@ The file has a line for each animal: place,tag,name,kilograms (Calf house,0412,A
 Kilograms are from 0.1 to 9999.9, at most one decimal. A field with a comma stands in double quotes.
 Blank lines and lines that begin with # are passed over. A line SAMPLE says: these are no real weights.
 
-  --copy NAME   prints the copies of this name alone
+  --copy NAME   prints the copies of this name alone; with $(divided_copies) an empty sheet with the date
+                comes before the sheets of each place, as a divider
   --heads       prints a line above each copy: the sheet's number, the copy's name, the overlay mark
   --help        prints this
 
 Exit status: 0 all sheets are good; 1 the job stopped, and sheets are missing; 2 the arguments or the
 weights are refused, and nothing is printed; 3 some sheets are to be held back. A run that begins to
-print ends with a line on standard error: how many pages went out, and the feet of paper that they took.
+print ends with a line on standard error: how many pages went out, dividers among them, and the feet of
+paper that they took.
 USAGE
 }
 
@@ -37,10 +39,17 @@ refuse_arguments() { # MESSAGE WORD...
     exit 2
 }
 
-# The names of the copies, a line each.
-copy_names() { sed -n 's/^COPY("\(.*\)", .*)$/\1/p' "$HOST_DIR/copies.def"; }
+# The names of the copies, a line each: of all, or of those with this way of skipping.
+copy_names() { # [WAY]
+    sed -n "s/^COPY(\"\(.*\)\", ${1:-.*})\$/\1/p" "$HOST_DIR/copies.def"
+}
 
-all_copies() { copy_names | paste -sd , - | sed 's/,/, /g'; }
+in_a_row() { paste -sd , - | sed 's/,/, /g'; }
+
+all_copies() { copy_names | in_a_row; }
+
+# Those that have dividers.
+divided_copies() { copy_names TRESTLEPIP_OLD_WAY | in_a_row; }
 
 is_copy() { # NAME
     copy_names | {

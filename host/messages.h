@@ -1,8 +1,9 @@
-/* What the spooler says on standard error, each message once; docs/HELP-CARD.md explains them. The first two begin a line, all others end one. */
+/* What the spooler says on standard error, each message once; docs/HELP-CARD.md explains them. The first three begin a line, all others end one. */
 #ifndef MESSAGES_H
 #define MESSAGES_H
 
 #define SAYS_ON_SHEET "sheet %zu (%s, page %zu of %zu), line %u, %s: "
+#define SAYS_BEFORE_SHEET "before sheet %zu (%s, page %zu of %zu), %s: "
 #define SAYS_BEFORE_SHEETS "before any sheet, %s: "
 
 #define SAYS_DATA_CHECK "data check %02X, %s\n"
@@ -13,6 +14,7 @@
 #define SAYS_CHANNEL_9 "channel 9 came, which the form does not have\n"
 #define SAYS_CHANNEL_12 "channel 12 came at the wrong line\n"
 #define SAYS_NO_CHANNEL_12 "channel 12 did not come at the last weight\n"
+#define SAYS_OPENING "the skip to the first line did not go as planned\n"
 #define SAYS_REFUSAL "refusal %u, %s\n"
 #define SAYS_LOAD_CHECK "refusal %u, %s, cause %u, %s\n"
 

@@ -82,8 +82,9 @@ struct paper {
 
 /*
  * A printer with all that the host keeps of it: the four buffers lent to every call, one to compose in, where the output goes and how it is to look.
- * `only` is the number of the one copy to print, 0 for all. `sheet` is the sheet in work, NULL before the first, `complete` the
- * number of the latest that is out, `pages` how many came to the stacker, `paper` what these took; `line` and `call` say what is done.
+ * `only` is the number of the one copy to print, 0 for all; `way` is the way of skipping. `sheet` is the sheet in work, NULL where there is none;
+ * `opened` is the first sheet of the job that is being opened, NULL at other times. `complete` is the number of the latest sheet that is out,
+ * `pages` how many pages came to the stacker, `paper` what these took; `line` and `call` say what is done.
  */
 struct spool {
     uint8_t state[TRESTLEPIP_STATE_BYTES];
@@ -94,8 +95,10 @@ struct spool {
     FILE *sheets, *reports;
     const char *between;
     unsigned only;
+    uint32_t way;
     bool heads, begun, stopped, all_held;
     struct sheet *sheet;
+    const struct sheet *opened;
     size_t complete, pages;
     struct paper paper;
     unsigned line;
@@ -117,6 +120,12 @@ void spool_send(struct spool *spool, uint8_t command, const uint8_t *record, siz
 /* The same for the weight that fills a sheet: channel 12 has to come with it, and with no other command. */
 void spool_send_last(struct spool *spool, uint8_t command, const uint8_t *record, size_t length);
 
+/*
+ * Opens a job, which is the sheets of one place from `first` on, with an immediate skip to the top of the form. In the new way the form stands. In the
+ * old way a divider comes out: a page with the legends alone, which is no sheet.
+ */
+void spool_open(struct spool *spool, const struct sheet *first, uint8_t skip);
+
 /* Reports the page that was released past each station, and counts it and its paper when it is stacked. */
 void spool_pass_stations(struct spool *spool);
 
@@ -126,10 +135,14 @@ void spool_pass_stations(struct spool *spool);
  */
 void show_copy(struct spool *spool, uint64_t answer);
 
-/* Each report says the sheet in work, the line, and the call. The checks are those of a command's answer, with the sense read after it. */
+/*
+ * Each report says the sheet in work and the line, or the sheet before which a job is being opened; and the call. The checks are those of a command's
+ * answer, with the sense read after it.
+ */
 void report_refusal(const struct spool *spool, uint64_t answer);
 void report_checks(const struct spool *spool, uint64_t answer, const uint8_t *sense);
 void report_channel_12(const struct spool *spool, bool came);
+void report_opening(const struct spool *spool);
 void report_not_written(const struct spool *spool);
 
 /* Says which sheets are to be held back, of a job that stopped which are out, and last how many pages and feet went out. Returns how the run ends. */

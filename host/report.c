@@ -9,9 +9,11 @@
 /* Begins a report: where the job is. */
 static void say_where(const struct spool *spool)
 {
-    const struct sheet *sheet = spool->sheet;
+    const struct sheet *sheet = spool->sheet, *opened = spool->opened;
     if (sheet)
         fprintf(spool->reports, SAYS_ON_SHEET, sheet->number, sheet->place->title, sheet->page, sheet->pages, spool->line, spool->call);
+    else if (opened)
+        fprintf(spool->reports, SAYS_BEFORE_SHEET, opened->number, opened->place->title, opened->page, opened->pages, spool->call);
     else
         fprintf(spool->reports, SAYS_BEFORE_SHEETS, spool->call);
 }
@@ -69,6 +71,12 @@ void report_channel_12(const struct spool *spool, bool came)
         fprintf(spool->reports, SAYS_CHANNEL_12);
     else
         fprintf(spool->reports, SAYS_NO_CHANNEL_12);
+}
+
+void report_opening(const struct spool *spool)
+{
+    say_where(spool);
+    fprintf(spool->reports, SAYS_OPENING);
 }
 
 void report_not_written(const struct spool *spool)

@@ -247,11 +247,14 @@ static void write_totals(struct spool *spool)
         write_total(spool, "Place total", sheet->place->heads, sheet->place->tenths);
 }
 
-/* Clear ends the sheet, and the next begins on line 1. */
+/* A job opens before the first sheet of its place. Clear ends a sheet, and the next begins on line 1. */
 void sheets_print(struct spool *spool, const struct herd *herd, const struct plan *plan)
 {
     for (size_t i = 0; i < plan->count && !spool->stopped; i++) {
-        spool->sheet = &plan->sheets[i];
+        struct sheet *sheet = &plan->sheets[i];
+        if (sheet->page == 1)
+            spool_open(spool, sheet, TRESTLEPIP_SKIP(TOP));
+        spool->sheet = sheet;
         write_heading(spool);
         write_weights(spool, herd);
         write_totals(spool);

@@ -79,7 +79,9 @@ static void show_lines(FILE *to, const uint8_t *copy)
 
 static void show_head(const struct spool *spool, unsigned number, unsigned mark)
 {
-    fprintf(spool->sheets, "---- sheet %zu, copy %u (%s), overlay mark %u\n", spool->sheet->number, number, copies[number - 1].name, mark);
+    const struct sheet *sheet = spool->opened ? spool->opened : spool->sheet;
+    fprintf(spool->sheets, "---- %ssheet %zu, copy %u (%s), overlay mark %u\n",
+        spool->opened ? "divider before " : "", sheet->number, number, copies[number - 1].name, mark);
 }
 
 void show_copy(struct spool *spool, uint64_t answer)

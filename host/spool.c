@@ -30,7 +30,7 @@ static void stop_if_refused(struct spool *spool, uint64_t answer)
     spool->stopped = true;
 }
 
-/* What goes wrong in the loads is on every sheet. */
+/* What goes wrong while no sheet is in work, in the loads or in opening a job, concerns every sheet: all have the same form. */
 static void hold_back(struct spool *spool)
 {
     if (spool->sheet)
@@ -62,6 +62,16 @@ static void check_channel_12(struct spool *spool, uint64_t answer, bool is_due)
     if (came == is_due)
         return;
     report_channel_12(spool, came);
+    hold_back(spool);
+}
+
+/* At the top of the form the skip stands, or in the old way completes a page: where it does not, the printer's lines are not those of the plan. */
+static void check_opening(struct spool *spool, uint64_t answer)
+{
+    bool is_old = spool->way == TRESTLEPIP_OLD_WAY;
+    if (is_old ? trestlepip_ready(answer) == 1 : trestlepip_lines(answer) == 0)
+        return;
+    report_opening(spool);
     hold_back(spool);
 }
 
@@ -145,18 +155,26 @@ void spool_pass_stations(struct spool *spool)
         spool->pages += trestlepip_pages_between(trestlepip_stacker_page(spool->state), before);
 }
 
-/* A page is released only when all its copies are out; one that stopped between them is to be held back. */
+/* A sheet that stopped between its copies is to be held back. */
+static void note_sheet(struct spool *spool, struct sheet *sheet)
+{
+    sheet->out = true;
+    if (spool->stopped)
+        sheet->held = true;
+    else
+        spool->complete = sheet->number;
+}
+
+/* A page is released only when all its copies are out. A divider is no sheet, so that nothing is noted of it. */
 static void print_page(struct spool *spool)
 {
-    spool->sheet->out = true;
     begin_call(spool, "compose");
     print_copies(spool);
     flush_sheets(spool);
-    if (spool->stopped) {
-        hold_back(spool);
+    if (spool->sheet)
+        note_sheet(spool, spool->sheet);
+    if (spool->stopped)
         return;
-    }
-    spool->complete = spool->sheet->number;
     begin_call(spool, "release");
     stop_if_refused(spool, trestlepip_release(STORES(spool)));
     spool_pass_stations(spool);
@@ -166,6 +184,7 @@ void spool_start(struct spool *spool, uint32_t form, uint32_t way)
 {
     begin_call(spool, "start");
     stop_if_refused(spool, trestlepip_start(form, 10, 10, 12, 15, way, STORES(spool)));
+    spool->way = way;
     spool->paper.form = form;
     begin_sum(&spool->paper, trestlepip_channel_page(spool->state));
 }
@@ -180,6 +199,8 @@ static void send(struct spool *spool, bool is_last, uint8_t command, const uint8
     if (spool->stopped)
         return;
     check_channel_12(spool, answer, is_last);
+    if (spool->opened)
+        check_opening(spool, answer);
     if (has_check(answer))
         read_sense(spool, answer);
     if (trestlepip_ready(answer) && !spool->stopped)
@@ -194,4 +215,12 @@ void spool_send(struct spool *spool, uint8_t command, const uint8_t *record, siz
 void spool_send_last(struct spool *spool, uint8_t command, const uint8_t *record, size_t length)
 {
     send(spool, true, command, record, length);
+}
+
+void spool_open(struct spool *spool, const struct sheet *first, uint8_t skip)
+{
+    spool->sheet = NULL;
+    spool->opened = first;
+    spool_send(spool, skip, NULL, 0);
+    spool->opened = NULL;
 }

@@ -1,6 +1,6 @@
 /*
- * Provokes each check, which is no refusal: the data checks and the channels. Asks that the job goes on, that the check is reported in the words of
- * docs/NUMBERS.md or messages.h, and that the sheets which it spoils, and no others, are to be held back.
+ * Provokes each check, which is no refusal: the data checks, the channels, and the skip that opens a job. Asks that the job goes on, that the check is
+ * reported in the words of docs/NUMBERS.md or messages.h, and that the sheets which it spoils, and no others, are to be held back.
  */
 #include <string.h>
 
@@ -11,11 +11,15 @@
 enum { NO_LETTER = 0x3F };
 static const uint8_t other_letter[] = {0xC2}, no_letter[] = {NO_LETTER};
 
-/* Parts of what is said: where a report begins before any sheet, how that of an unprintable byte ends, another check, the sheet to hold back. */
+/*
+ * Parts of what is said: where a report begins before any sheet, how that of an unprintable byte ends, another check, where a report begins on the
+ * skip that opens a job, the sheet to hold back.
+ */
 #define NO_SHEET "before any sheet, command "
 #define COLUMN_4 ": first in column 4, 2 in all\n"
 #define PLACE_3 ": first at place 3 in a legend's text, 2 in all\n"
 #define NO_TABLE SHEET_7 "01: data check 20, the selected table is not loaded\n"
+#define OPENING BEFORE_7 "command 8B: "
 #define HOLD_7 "hold back all copies of sheet 7: Calf house, page 2 of 3\n"
 
 /*
@@ -95,6 +99,41 @@ static void check_unprintable(FILE *page, size_t i)
     end_run_with(HOLD_BACK, spool.sheet ? 1 : 0, all, "not reported: unprintable", (unsigned)i);
 }
 
+/*
+ * The skip that opens a job, sent after another command, where it does not go as planned: the form, whose lines 1 and 2 have these channels, has no
+ * channel 1, which is a data check; or it stands elsewhere; or it has that channel twice. All that is said is `said`, the data check, and what to hold
+ * back.
+ */
+static const struct {
+    uint32_t way;
+    uint8_t before, channels[2];
+    const char *said;
+    bool has_check;
+    size_t pages;
+} openings[] = {
+    {TRESTLEPIP_NEW_WAY, TRESTLEPIP_NO_OP, {0, 0}, OPENING SAYS_OPENING, true, 2},
+    {TRESTLEPIP_OLD_WAY, TRESTLEPIP_NO_OP, {0, 0}, "", true, 2},
+    {TRESTLEPIP_NEW_WAY, TRESTLEPIP_SPACE_1, {1, 0}, OPENING SAYS_OPENING, false, 2},
+    {TRESTLEPIP_NEW_WAY, TRESTLEPIP_NO_OP, {0, 1}, OPENING SAYS_OPENING, false, 1},
+    {TRESTLEPIP_OLD_WAY, TRESTLEPIP_NO_OP, {1, 1}, OPENING SAYS_OPENING, false, 1},
+};
+
+/* All sheets have the same form, and all are to be held back. */
+static void check_opening(FILE *page, size_t i)
+{
+    char text[ROOM], all[3 * ROOM];
+    uint8_t forms[FORM / 4] = {0, 0, 0, openings[i].channels[0], openings[i].channels[1]};
+    expect(page, "| Check |", "10", OPENING "data check", text);
+    strcat(text, "\n");
+    snprintf(all, sizeof all, "%s%s" SAYS_HOLD_ALL, openings[i].said, openings[i].has_check ? text : "");
+    begin_run_in(openings[i].way);
+    spool_send(&spool, TRESTLEPIP_LOAD_FCB, forms, sizeof forms);
+    spool_send(&spool, openings[i].before, NULL, 0);
+    open_job();
+    print_sheet();
+    end_run_with(HOLD_BACK, openings[i].pages, all, "not reported: opening", (unsigned)i);
+}
+
 static void check_no_channel_12(void)
 {
     begin_run();
@@ -131,8 +170,10 @@ size_t test_checks(FILE *page)
         check_check(page, i);
     for (size_t i = 0; i < sizeof unprintables / sizeof *unprintables; i++)
         check_unprintable(page, i);
+    for (size_t i = 0; i < sizeof openings / sizeof *openings; i++)
+        check_opening(page, i);
     check_no_channel_12();
     check_not_out();
     check_good_line();
-    return sizeof checks / sizeof *checks + sizeof unprintables / sizeof *unprintables + 1;
+    return sizeof checks / sizeof *checks + sizeof unprintables / sizeof *unprintables + sizeof openings / sizeof *openings + 1;
 }

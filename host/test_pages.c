@@ -1,6 +1,7 @@
-/* Asks how many pages and feet of paper a run says went out: of a few sheets, of very many, and of a job that stopped. */
+/* Asks how many pages and feet of paper a run says went out: of a few sheets, of very many, of dividers, and of a job that stopped. */
 #include <string.h>
 
+#include "messages.h"
 #include "test_refusals.h"
 #include "test_run.h"
 
@@ -93,13 +94,18 @@ static void check_long_run(unsigned sums)
     end_run_with(ALL_GOOD, pages + MORE, "", "reported, though good, after pages", pages);
 }
 
+static void fill_disk(void)
+{
+    fclose(spool.sheets);
+    spool.sheets = fopen("/dev/full", "w");
+}
+
 /* A sheet that could not be written whole, after one that was. */
 static void check_not_written(void)
 {
     begin_run();
     print_sheet();
-    fclose(spool.sheets);
-    spool.sheets = fopen("/dev/full", "w");
+    fill_disk();
     print_sheet();
     end_run(STOPPED, 1, "the sheets could not be written: ", "not reported: sheet", 2);
 }
@@ -137,6 +143,49 @@ static void check_damaged_mark(void)
     end_run(STOPPED, 1, SHEET_7 "01: refusal 9", "not reported: mark", 2);
 }
 
+/* Two jobs of two sheets: four pages, and in the old way two dividers. */
+static void check_jobs(uint32_t way, size_t pages)
+{
+    begin_run_in(way);
+    for (unsigned jobs = 0; jobs < 2; jobs++) {
+        open_job();
+        print_sheet();
+        print_sheet();
+    }
+    end_run_with(ALL_GOOD, pages, "", "reported, though good: way", way);
+}
+
+/* A job that stops after its divider: that is a page, and no sheet. */
+static void check_divider(void)
+{
+    begin_run_in(TRESTLEPIP_OLD_WAY);
+    open_job();
+    check(!sheet.out && !sheet.held, "taken for a sheet: divider", 1);
+    spool_send(&spool, 0x00, NULL, 0);
+    end_run(STOPPED, 1, SAYS_NONE_OUT, "taken for a sheet: divider", 1);
+}
+
+/* A divider that could not be written, after a sheet that was: the sheet is out and good. Without legends a divider has only its head. */
+static void check_divider_not_written(void)
+{
+    begin_run_in(TRESTLEPIP_OLD_WAY);
+    spool.heads = true;
+    print_sheet();
+    fill_disk();
+    open_job();
+    check(spool.complete == sheet.number && !sheet.held, "not good: sheet", 7);
+    end_run(STOPPED, 1, "the sheets could not be written: ", "not reported: divider", 2);
+}
+
+/* A divider that is written, and not released. */
+static void check_divider_refused(void)
+{
+    begin_run_in(TRESTLEPIP_OLD_WAY);
+    set_counters(TRESTLEPIP_MOST_PAGES, 0);
+    open_job();
+    end_run(STOPPED, 0, BEFORE_7 "release: refusal 13", "not reported: divider", 3);
+}
+
 void test_pages(void)
 {
     check_pages(0, 0);
@@ -152,4 +201,9 @@ void test_pages(void)
     check_not_stacked();
     check_damaged();
     check_damaged_mark();
+    check_jobs(TRESTLEPIP_NEW_WAY, 4);
+    check_jobs(TRESTLEPIP_OLD_WAY, 6);
+    check_divider();
+    check_divider_not_written();
+    check_divider_refused();
 }

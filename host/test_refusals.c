@@ -102,6 +102,15 @@ static void check_number(FILE *page, unsigned number)
     end_run(STOPPED, 0, line, "not reported as on the page: refusal", number);
 }
 
+/* Number 10 is for a way of skipping too, if it is neither. */
+static void check_bad_way(FILE *page)
+{
+    char line[ROOM];
+    expect(page, "| Number |", "10", ": refusal", line);
+    begin_run_in(TRESTLEPIP_OLD_WAY + 1);
+    end_run(STOPPED, 0, line, "not reported as on the page: way", TRESTLEPIP_OLD_WAY + 1);
+}
+
 static void check_cause(FILE *page, unsigned cause)
 {
     char name[4], line[ROOM];
@@ -123,6 +132,7 @@ int main(int argc, char **argv)
     }
     for (size_t i = 0; i < sizeof numbers / sizeof *numbers; i++)
         check_number(page, numbers[i]);
+    check_bad_way(page);
     for (unsigned cause = 1; cause <= LISTED_CAUSES; cause++)
         check_cause(page, cause);
     size_t checks = test_checks(page);

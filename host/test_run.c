@@ -52,7 +52,7 @@ const uint8_t letter[] = {LETTER};
 static const struct place calf_house = {.title = "Calf house"};
 static const struct plan plan = {&sheet, 1};
 
-void begin_run(void)
+void begin_run_in(uint32_t way)
 {
     sheet = (struct sheet){.place = &calf_house, .number = 7, .page = 2, .pages = 3};
     memset(&spool, 0, sizeof spool);
@@ -60,7 +60,12 @@ void begin_run(void)
     spool.reports = scratch();
     spool.between = "";
     spool.only = 1;
-    spool_start(&spool, FORM, TRESTLEPIP_NEW_WAY);
+    spool_start(&spool, FORM, way);
+}
+
+void begin_run(void)
+{
+    begin_run_in(TRESTLEPIP_NEW_WAY);
 }
 
 void complete_page(void)
@@ -76,6 +81,11 @@ void set_counters(unsigned channel, unsigned others)
         spool.state[at] = (uint8_t)(counter / 256);
         spool.state[at + 1] = (uint8_t)(counter % 256);
     }
+}
+
+void open_job(void)
+{
+    spool_open(&spool, &sheet, TRESTLEPIP_SKIP(1));
 }
 
 void print_sheet(void)

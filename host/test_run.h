@@ -26,8 +26,9 @@ char *written(FILE *file);
 extern struct sheet sheet;
 extern struct spool spool;
 
-/* Where a report on this sheet begins. */
+/* Where a report on this sheet begins, and one on the opening of a job before it. */
 #define SHEET_7 "sheet 7 (Calf house, page 2 of 3), line 1, command "
+#define BEFORE_7 "before sheet 7 (Calf house, page 2 of 3), "
 
 /* A record with one letter. */
 enum { LETTER = 0xC1 };
@@ -36,11 +37,17 @@ extern const uint8_t letter[1];
 /* A printer as after Start, before any sheet, whose output can be read back. It prints one copy, as the sequence says that Start leaves. */
 void begin_run(void);
 
+/* The same with this way of skipping, which else is the new one. */
+void begin_run_in(uint32_t way);
+
 /* Leaves a completed page waiting, behind the spooler's back. */
 void complete_page(void);
 
 /* Sets the printer's page counters, behind the spooler's back: the channel's, and the other three alike. */
 void set_counters(unsigned channel, unsigned others);
+
+/* Opens a job before this sheet. */
+void open_job(void);
 
 /* Prints a sheet with one letter. */
 void print_sheet(void);
