@@ -22,9 +22,9 @@ fn record_of(given: &[u8], n: usize) -> &[u8] {
     &all[1..]
 }
 
-// One of a Start line's four pitches.
-fn pitch(given: &Given, which: usize) -> u32
-    requires { ⌜ which < 4 ⌝ }
+// What a Start line has after the form length: four pitches, and the way of skipping.
+fn after_form(given: &Given, which: usize) -> u32
+    requires { ⌜ which < 5 ⌝ }
 {
     let at = which + 2;
     seq::wide(given[at]) as u32
@@ -39,10 +39,11 @@ fn start(
 ) -> u64 {
     trestlepip::trestlepip_start(
         double(given, 0) as u32,
-        pitch(given, 0),
-        pitch(given, 1),
-        pitch(given, 2),
-        pitch(given, 3),
+        after_form(given, 0),
+        after_form(given, 1),
+        after_form(given, 2),
+        after_form(given, 3),
+        after_form(given, 4),
         state,
         page,
         legends,

@@ -119,7 +119,7 @@ pub fn bytes(line: &[u8], letter: u8, out: &mut [u8]) -> usize {
 pub fn meant(letter: u8, n: usize) -> bool {
     match letter {
         b'#' => true,
-        b'S' => n == 6,
+        b'S' => n == 7,
         b'C' => n == 2,
         b'R' => n == 0,
         b'T' => n == 0,

@@ -40,7 +40,8 @@ fn place(name: &[u8], at: usize, next: usize)
 pub fn places() {
     show::text(b"# place: a field of the state, its first byte, and how many it has\n");
     place(b"FORM", Printer::LENGTH_AT, Printer::PITCHES_AT);
-    place(b"PITCH", Printer::PITCHES_AT, Printer::BLOCKED_AT);
+    place(b"PITCH", Printer::PITCHES_AT, Printer::SKIP_AT);
+    place(b"SKIP", Printer::SKIP_AT, Printer::BLOCKED_AT);
     place(b"BLOCK", Printer::BLOCKED_AT, Printer::FCB_COUNT_AT);
     place(b"FCB_COUNT", Printer::FCB_COUNT_AT, Printer::LOADED_AT);
     place(b"LOADED", Printer::LOADED_AT, Printer::SELECTED_AT);
