@@ -258,5 +258,5 @@ GENERATOR='tests/second/calls.c tests/second/station_calls.c tests/second/feet_c
 RECORDS='tests/second/records.c tests/second/fcb_records.c tests/second/legend_records.c'
 COMPARISON='tests/second/compare.c tests/second/report.c tests/second/page_law.c tests/second/feet_law.c tests/second/counts.c tests/second/counts_pages.c tests/second/counts_feet.c tests/second/counts_table.c tests/second/table.c'
 LISTS='tests/second/run.c tests/second/lent.c tests/second/programs.c tests/second/long_list.c tests/second/demand3.c tests/second/pair.c'
-DRIVE="tests/second/drive.c tests/second/script.c $LISTS $COMPARISON $GENERATOR $RECORDS"
+DRIVE="tests/second/drive.c tests/second/script.c tests/second/script_read.c tests/second/script_tell.c $LISTS $COMPARISON $GENERATOR $RECORDS"
 BENCH='benches/bench.c benches/works.c benches/sides.c benches/plain.c'
