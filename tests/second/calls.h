@@ -53,6 +53,7 @@ struct call {
     enum call_kind kind;
     uint32_t form;
     uint32_t pitch[4];
+    uint32_t skip;
     uint8_t command;
     uint32_t copy;
     uint8_t record[RECORD_ROOM];

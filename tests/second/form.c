@@ -1,4 +1,4 @@
-/* Form and forms control; Movement. */
+/* Form and forms control; Movement; T-05. */
 #include "parts.h"
 
 #include <string.h>
@@ -25,6 +25,12 @@ static bool pitch_listed(uint32_t pitch)
 bool pitches_listed(const uint32_t pitch[TRESTLEPIP_MODULES])
 {
     return pitch[0] != 0 && pitch_listed(pitch[0]) && pitch_listed(pitch[1]) && pitch_listed(pitch[2]) && pitch_listed(pitch[3]);
+}
+
+/* T-05: the new way or the old. */
+bool way_listed(uint32_t way)
+{
+    return way == NEW_WAY || way == OLD_WAY;
 }
 
 /* Form and forms control: a line's units by the upper half, 0 where that is no spacing. */
@@ -170,6 +176,12 @@ struct movement skip(const struct printer *p, unsigned sought)
             return (struct movement){ .line = line, .lines_moved = looked, .completes = over };
     }
     return (struct movement){ .line = 1, .lines_moved = last, .completes = true, .no_match = true };
+}
+
+/* T-05: whether an immediate skip to this channel stands: in the new way, where the current line has the channel and nothing is written on it. */
+bool skip_stands(const struct printer *p, unsigned sought)
+{
+    return p->way == NEW_WAY && !p->written && channel(first_printable(p)[p->line - 1]) == sought;
 }
 
 /* Movement: when a page is started. */

@@ -25,6 +25,9 @@ enum {
     PAGES_OUT_MOST = 32767
 };
 
+/* T-05: the ways of skipping, as Start is asked for them. */
+enum { NEW_WAY = 0, OLD_WAY = 1 };
+
 /* Causes in sense byte 1 of a data check. */
 enum { UNPRINTABLE = 0x80, NO_TABLE = 0x20, NO_MATCH = 0x10, MULTIPLE = 0x08 };
 
@@ -42,6 +45,7 @@ struct counters {
 struct printer {
     unsigned form;
     uint32_t pitch[TRESTLEPIP_MODULES];
+    uint32_t way;
     unsigned block;
     unsigned fcb_count;
     unsigned loaded[TRESTLEPIP_SLOTS];
@@ -88,11 +92,13 @@ bool all_zero(const uint8_t *bytes, size_t count);
 /* form.c */
 bool form_listed(uint32_t form);
 bool pitches_listed(const uint32_t pitch[TRESTLEPIP_MODULES]);
+bool way_listed(uint32_t way);
 unsigned fcb_cause(unsigned form, const uint8_t *fcb, size_t count);
 void starting_fcb(struct printer *p);
 unsigned printable_lines(const struct printer *p);
 struct movement space(const struct printer *p, unsigned lines);
 struct movement skip(const struct printer *p, unsigned channel);
+bool skip_stands(const struct printer *p, unsigned channel);
 bool page_started(const struct printer *p);
 
 /* line.c */

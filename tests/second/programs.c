@@ -43,7 +43,7 @@ static double *handed_feet(const struct set *s)
 static uint64_t make_call(const struct exports *p, const struct set *s, const struct call *c)
 {
     switch (c->kind) {
-    case CALL_START: return p->start(c->form, c->pitch[0], c->pitch[1], c->pitch[2], c->pitch[3], HANDED_STORES);
+    case CALL_START: return p->start(c->form, c->pitch[0], c->pitch[1], c->pitch[2], c->pitch[3], c->skip, HANDED_STORES);
     case CALL_FEET: return p->feet(c->initial, c->final, c->copies, c->form, handed_feet(s));
     case CALL_COMMAND: return p->command(c->command, HANDED(RECORD, c->record_len), HANDED(REPLY, c->buffer_len), HANDED_STORES);
     case CALL_COMPOSE: return p->compose(c->copy, HANDED(OUT, c->buffer_len), HANDED_STORES);

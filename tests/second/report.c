@@ -25,7 +25,7 @@ static void print_name(const struct call *c)
 {
     printf("%s", call_name[c->kind]);
     if (c->kind == CALL_START)
-        printf(": form %u, pitches %u %u %u %u", c->form, c->pitch[0], c->pitch[1], c->pitch[2], c->pitch[3]);
+        printf(": form %u, pitches %u %u %u %u, way of skipping %u", c->form, c->pitch[0], c->pitch[1], c->pitch[2], c->pitch[3], c->skip);
     else if (c->kind == CALL_FEET)
         printf(": initial %04X, final %04X, copies %u, form %u", c->initial, c->final, c->copies, c->form);
     else if (c->kind == CALL_COMMAND)

@@ -1,4 +1,4 @@
-/* Calls; Numbers; Commands; Reset and sense; T-01; of T-02, what a Release counts. */
+/* Calls; Numbers; Commands; Reset and sense; T-01; of T-02, what a Release counts; of T-05, which skips may stand, and Start's choice. */
 #include "second.h"
 
 #include "parts.h"
@@ -118,7 +118,7 @@ static void set_sense(struct printer *p, unsigned byte_0, unsigned byte_1, unsig
     p->sense[2] = (uint8_t)byte_2;
 }
 
-/* Reset and sense: all that Initialize resets; the check switch, the sense and the counters are left. */
+/* Reset and sense: all that Initialize resets; the way of skipping, the check switch, the sense and the counters are left. */
 static void reset(struct printer *p, uint8_t *legends, uint8_t *tables)
 {
     starting_fcb(p);
@@ -174,6 +174,14 @@ static void move(struct printer *p, const struct movement *m)
     p->waiting = m->completes;
 }
 
+/* Movement, T-05: where a write or an immediate command moves the form. A write and skip always moves. */
+static struct movement movement_of(const struct printer *p, struct command c)
+{
+    if (c.kind == SKIP_NOW && skip_stands(p, c.n))
+        return at_rest(p);
+    return c.kind == WRITE_SKIP || c.kind == SKIP_NOW ? skip(p, c.n) : space(p, c.n);
+}
+
 /* Writing a line, Movement: writing comes before movement; causes of both are joined. */
 static struct answer write_or_move(struct printer *p, struct command c, const struct lent *l)
 {
@@ -182,8 +190,7 @@ static struct answer write_or_move(struct printer *p, struct command c, const st
         found = write_line(p, l->tables, l->record, l->record_len, l->page);
         p->written = 1;
     }
-    bool skips = c.kind == WRITE_SKIP || c.kind == SKIP_NOW;
-    struct movement m = skips ? skip(p, c.n) : space(p, c.n);
+    struct movement m = movement_of(p, c);
     move(p, &m);
     return accepted(p, &found, &m);
 }
@@ -367,38 +374,40 @@ uint64_t second_command(uint8_t command,
     return pack(a);
 }
 
-/* Calls, Start: sizes, then form and pitches; what the buffers held is not looked at. */
-static struct answer judge_start(uint32_t form, const uint32_t pitch[TRESTLEPIP_MODULES], bool sized)
+/* Calls, Start, T-05: sizes, then form, pitches and way; what the buffers held is not looked at. */
+static struct answer judge_start(uint32_t form, const uint32_t pitch[TRESTLEPIP_MODULES], uint32_t way, bool sized)
 {
     if (!sized)
         return refused(9, 0x00);
-    if (!form_listed(form) || !pitches_listed(pitch))
+    if (!form_listed(form) || !pitches_listed(pitch) || !way_listed(way))
         return refused(10, 0x00);
     return (struct answer){ 0 };
 }
 
 /* Calls, Start: the state of a new printer; the stores as after Initialize, with the page set to zeros. */
-static void new_printer(uint32_t form, const uint32_t pitch[TRESTLEPIP_MODULES], struct printer *p, uint8_t *page, uint8_t *legends, uint8_t *tables)
+static void new_printer(uint32_t form, const uint32_t pitch[TRESTLEPIP_MODULES], uint32_t way, struct printer *p, uint8_t *page, uint8_t *legends,
+        uint8_t *tables)
 {
     memset(p, 0, sizeof *p);
     p->form = form;
     memcpy(p->pitch, pitch, sizeof p->pitch);
+    p->way = way;
     reset(p, legends, tables);
     memset(page, 0, PAGE_BYTES);
 }
 
 /* Calls, Start; Numbers: a refused Start leaves zeros where the state buffer has its size. */
 uint64_t second_start(uint32_t form,
-        uint32_t pitch0, uint32_t pitch1, uint32_t pitch2, uint32_t pitch3,
+        uint32_t pitch0, uint32_t pitch1, uint32_t pitch2, uint32_t pitch3, uint32_t skip,
         uint8_t *state, size_t state_len, uint8_t *page, size_t page_len,
         uint8_t *legends, size_t legends_len, uint8_t *tables, size_t tables_len)
 {
     struct printer p;
     const uint32_t pitch[TRESTLEPIP_MODULES] = { pitch0, pitch1, pitch2, pitch3 };
     bool sized = stores_sized(state_len, page_len, legends_len, tables_len);
-    struct answer a = judge_start(form, pitch, sized);
+    struct answer a = judge_start(form, pitch, skip, sized);
     if (a.number == 0) {
-        new_printer(form, pitch, &p, page, legends, tables);
+        new_printer(form, pitch, skip, &p, page, legends, tables);
         encode(&p, state);
     } else if (state_len == STATE_BYTES) {
         memset(state, 0, STATE_BYTES);

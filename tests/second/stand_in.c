@@ -3,11 +3,12 @@
 #include "second.h"
 
 uint64_t trestlepip_start(uint32_t form,
-        uint32_t pitch0, uint32_t pitch1, uint32_t pitch2, uint32_t pitch3,
+        uint32_t pitch0, uint32_t pitch1, uint32_t pitch2, uint32_t pitch3, uint32_t skip,
         uint8_t *state, size_t state_len, uint8_t *page, size_t page_len,
         uint8_t *legends, size_t legends_len, uint8_t *tables, size_t tables_len)
 {
-    return second_start(form, pitch0, pitch1, pitch2, pitch3, state, state_len, page, page_len, legends, legends_len, tables, tables_len);
+    return second_start(form, pitch0, pitch1, pitch2, pitch3, skip,
+            state, state_len, page, page_len, legends, legends_len, tables, tables_len);
 }
 
 uint64_t trestlepip_command(uint8_t command,

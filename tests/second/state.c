@@ -6,6 +6,7 @@
 /* STATE.md: the fields of one byte, in its order. */
 static void decode_singles(const uint8_t *bytes, struct printer *p)
 {
+    p->way = bytes[TRESTLEPIP_AT_SKIP];
     p->block = bytes[TRESTLEPIP_AT_BLOCK];
     p->fcb_count = bytes[TRESTLEPIP_AT_FCB_COUNT];
     p->selected = bytes[TRESTLEPIP_AT_SELECTED];
@@ -64,6 +65,7 @@ void decode(const uint8_t *bytes, struct printer *p)
 /* STATE.md: the fields of one byte again, written. */
 static void encode_singles(const struct printer *p, uint8_t *bytes)
 {
+    bytes[TRESTLEPIP_AT_SKIP] = (uint8_t)p->way;
     bytes[TRESTLEPIP_AT_BLOCK] = (uint8_t)p->block;
     bytes[TRESTLEPIP_AT_FCB_COUNT] = (uint8_t)p->fcb_count;
     bytes[TRESTLEPIP_AT_SELECTED] = (uint8_t)p->selected;
@@ -147,8 +149,8 @@ static bool marks_in_range(const uint8_t *page)
 /* Numbers, 9: contents no printer has, without the sizes. */
 bool contents_of_a_printer(const struct printer *p, const uint8_t *page, const uint8_t *legends)
 {
-    return form_listed(p->form) && pitches_listed(p->pitch) && p->block <= 1 && slots_in_range(p) && p->selected < TRESTLEPIP_SLOTS
-        && p->copy_number >= 1 && fcb_in_range(p) && sequence_in_range(p) && page_in_range(p) && counters_reachable(&p->pages)
+    return form_listed(p->form) && pitches_listed(p->pitch) && way_listed(p->way) && p->block <= 1 && slots_in_range(p)
+        && p->selected < TRESTLEPIP_SLOTS && p->copy_number >= 1 && fcb_in_range(p) && sequence_in_range(p) && page_in_range(p) && counters_reachable(&p->pages)
         && legends_as_stored(legends) && marks_in_range(page);
 }
 
