@@ -49,7 +49,7 @@ static uint64_t make_call(struct player *p, const struct line *l)
     const uint8_t *g = l->given;
     p->calls++;
     switch (l->letter) {
-    case 'S': return p->exports.start(two_bytes(g), g[2], g[3], g[4], g[5], TRESTLEPIP_NEW_WAY, PART_STORES);
+    case 'S': return p->exports.start(two_bytes(g), g[2], g[3], g[4], g[5], g[6], PART_STORES);
     case 'F': return p->exports.feet(two_bytes(g), two_bytes(g + 2), four_bytes(g + 4), four_bytes(g + 8), &p->feet);
     case 'C': return p->exports.compose(two_bytes(g), PART(BUFFER), PART_STORES);
     case 'R': return p->exports.release(PART_STORES);

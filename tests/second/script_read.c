@@ -47,7 +47,7 @@ static bool add_words(struct line *l, const char *words, size_t length)
 static bool is_meant(char letter, size_t count)
 {
     switch (letter) {
-    case 'S': return count == 6;
+    case 'S': return count == 7;
     case 'C': return count == 2;
     case 'F': return count == 12;
     case 'R': case 'T': case 'U': case 'K': case 'X': case 'N': return count == 0;
