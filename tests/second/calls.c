@@ -24,6 +24,24 @@ bool translates(const struct call *c)
     return writes(c) || (c->kind == CALL_COMMAND && c->command == 0x35);
 }
 
+/* The channel of a skip whose byte ends in these three bits: 1nnnn001 after a write, 1nnnn011 immediate. */
+static unsigned channel_in(const struct call *c, unsigned last_bits)
+{
+    unsigned channel = (c->command >> 3) & 0x0Fu;
+    bool is_skip = c->kind == CALL_COMMAND && c->command >= 0x80 && c->command % 8 == last_bits && channel <= 12;
+    return is_skip ? channel : 0;
+}
+
+unsigned immediate_channel(const struct call *c)
+{
+    return channel_in(c, 3);
+}
+
+unsigned write_channel(const struct call *c)
+{
+    return channel_in(c, 1);
+}
+
 bool judges_stores(const struct call *c)
 {
     return c->kind >= CALL_COMMAND;
@@ -49,6 +67,24 @@ static void move_command(struct generator *g, struct call *c)
     if (percent(g, 5 + g->percent_skip))
         c->command = (uint8_t)(0x83 + 8 * (percent(g, 60) ? channel_near(g) : between(g, 1, 12)));
     any_record(g, c, ignored_length(g));
+}
+
+/* Whether it is time for a skip to the channel that the current line has itself; mostly where nothing is written there, so that it may stand. */
+static bool skip_here_due(struct generator *g)
+{
+    return channel_of_line(state_of(g)) != 0 && percent(g, written_now(g) ? 2 : 6);
+}
+
+/* Such a skip: mostly immediate, else after a write. */
+static void skip_here_command(struct generator *g, struct call *c)
+{
+    unsigned channel = channel_of_line(state_of(g));
+    bool immediate = percent(g, 70);
+    c->command = (uint8_t)(immediate ? TRESTLEPIP_SKIP(channel) : TRESTLEPIP_WRITE_SKIP(channel));
+    if (immediate)
+        any_record(g, c, ignored_length(g));
+    else
+        write_record(g, c);
 }
 
 /* A translate load; a calm printer is mostly told first to select a slot that is not loaded, so that in time all four are. */
@@ -128,6 +164,10 @@ static void command(struct generator *g, struct call *c)
         load_command(g, c);
         return;
     }
+    if (skip_here_due(g)) {
+        skip_here_command(g, c);
+        return;
+    }
     switch (started_now(g) ? WEIGHTED(g, 800, 60, 25, 95, 20) : WEIGHTED(g, 420, 30, 400, 130, 20)) {
     case 0: write_command(g, c); break;
     case 1: move_command(g, c); break;
@@ -150,6 +190,7 @@ static void start_listed(struct generator *g, struct call *c)
         c->pitch[0] = c->pitch[1] = c->pitch[2] = c->pitch[3] = 10;
     if (g->calm && percent(g, 50))
         c->form = FORM_LONGEST;
+    c->skip = percent(g, 50) ? TRESTLEPIP_NEW_WAY : TRESTLEPIP_OLD_WAY;
 }
 
 /* One of Start's numbers, not listed, also such that its low bits are. */
@@ -164,6 +205,13 @@ static void start_fault(struct generator *g, struct call *c)
     case 2: c->pitch[module] = no_pitch[below(g, COUNT(no_pitch))]; break;
     default: c->pitch[0] = 0; break;
     }
+}
+
+/* A way of skipping that is neither the new nor the old, also such that its low bits are. */
+static void other_way(struct generator *g, struct call *c)
+{
+    static const uint32_t neither[] = { 2, 3, 128, 254, 255, 256, 257, 65536, 65537, 0x80000000, 0x80000001, UINT32_MAX - 1, UINT32_MAX };
+    c->skip = percent(g, 80) ? neither[below(g, COUNT(neither))] : (uint32_t)next(g) | 2;
 }
 
 /* A store of wrong size: a byte short, a byte long, empty, or half. */
@@ -192,9 +240,14 @@ static void start(struct generator *g, struct call *c)
     c->kind = CALL_START;
     choose_moods(g);
     start_listed(g, c);
-    if (g->made > 1 && percent(g, 15))
+    if (g->made == 1)
+        return;
+    bool neither = percent(g, 12);
+    if (percent(g, 15))
         start_fault(g, c);
-    if (g->made > 1 && percent(g, 8))
+    if (neither)
+        other_way(g, c);
+    if (percent(g, neither ? 20 : 8))
         wrong_size(g, c);
 }
 

@@ -77,6 +77,10 @@ bool writes(const struct call *c);
 /* Whether the call is a write or a legend load, if its byte is listed: only these translate. */
 bool translates(const struct call *c);
 
+/* The channel of an immediate skip, and that of a write and skip; 0 of any other call. */
+unsigned immediate_channel(const struct call *c);
+unsigned write_channel(const struct call *c);
+
 /* Whether the call is one of the five that change the page counters alone. */
 bool is_tally(const struct call *c);
 
@@ -112,6 +116,9 @@ void generator_fill(struct generator *g, uint8_t *bytes, size_t count);
 
 /* Makes the next call over the one before it; `answered` is the number that that one got. */
 void generator_next(struct generator *g, unsigned answered, struct call *c);
+
+/* The channel of a state's current line; 0 if the line has none, or the form no such line. */
+unsigned channel_of_line(const uint8_t *state);
 
 /* A page counter of a state. */
 unsigned counter_of(const uint8_t *state, unsigned counter);

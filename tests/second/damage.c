@@ -54,13 +54,24 @@ static void damage_field(struct generator *g, struct call *c)
 {
     static const struct { uint8_t at, outside; } bytes[] = {
         { TRESTLEPIP_AT_PITCH, 0 }, { TRESTLEPIP_AT_PITCH + 1, 1 }, { TRESTLEPIP_AT_PITCH + 2, 11 }, { TRESTLEPIP_AT_PITCH + 3, 16 },
-        { TRESTLEPIP_AT_BLOCK, 2 }, { TRESTLEPIP_AT_FCB_COUNT, TRESTLEPIP_FCB_MOST + 1 }, { TRESTLEPIP_AT_LOADED, 0 }, { TRESTLEPIP_AT_LOADED + 1, 2 },
-        { TRESTLEPIP_AT_LOADED + 2, 2 }, { TRESTLEPIP_AT_LOADED + 3, 2 }, { TRESTLEPIP_AT_SELECTED, TRESTLEPIP_SLOTS },
+        { TRESTLEPIP_AT_SKIP, TRESTLEPIP_OLD_WAY + 1 }, { TRESTLEPIP_AT_BLOCK, 2 }, { TRESTLEPIP_AT_FCB_COUNT, TRESTLEPIP_FCB_MOST + 1 },
+        { TRESTLEPIP_AT_LOADED, 0 }, { TRESTLEPIP_AT_LOADED + 1, 2 }, { TRESTLEPIP_AT_LOADED + 2, 2 }, { TRESTLEPIP_AT_LOADED + 3, 2 },
+        { TRESTLEPIP_AT_SELECTED, TRESTLEPIP_SLOTS },
         { TRESTLEPIP_AT_SEQUENCE_COUNT, TRESTLEPIP_SEQUENCE_MOST + 2 }, { TRESTLEPIP_AT_COPY_NUMBER, 0 }, { TRESTLEPIP_AT_LINE, 133 },
         { TRESTLEPIP_AT_WRITTEN, 2 }, { TRESTLEPIP_AT_WAITING, 2 }, { TRESTLEPIP_AT_RESET_DUE, 2 }
     };
     unsigned i = below(g, COUNT(bytes));
     set_byte(g, c, STATE, bytes[i].at, bytes[i].outside);
+}
+
+/* The other way of skipping, which every call takes, or a byte that is neither. */
+static void damage_way(struct generator *g, struct call *c)
+{
+    static const uint8_t neither[] = { 0x02, 0x03, 0x80, 0x81, 0xFF };
+    bool is_new = state_of(g)[TRESTLEPIP_AT_SKIP] == TRESTLEPIP_NEW_WAY;
+    unsigned bad = percent(g, 50) ? neither[below(g, COUNT(neither))] : between(g, TRESTLEPIP_OLD_WAY + 1, 0xFF);
+    unsigned other = is_new ? TRESTLEPIP_OLD_WAY : TRESTLEPIP_NEW_WAY;
+    set_byte(g, c, STATE, TRESTLEPIP_AT_SKIP, percent(g, 50) ? other : bad);
 }
 
 /* A page that waits though none was completed, in a state that is mostly a printer's otherwise. */
@@ -186,7 +197,7 @@ static void damage_counters(struct generator *g, struct call *c)
 static void damage(struct generator *g, struct call *c)
 {
     g->damage_left = between(g, 2, 6);
-    switch (started_now(g) ? WEIGHTED(g, 50, 12, 12, 8, 5, 8, 10, 12, 40, 25, 4) : WEIGHTED(g, 40, 7, 7, 8, 5, 8, 8, 12, 50, 25, 6)) {
+    switch (started_now(g) ? WEIGHTED(g, 50, 12, 12, 8, 5, 8, 10, 12, 40, 25, 20, 4) : WEIGHTED(g, 40, 7, 7, 8, 5, 8, 8, 12, 50, 25, 20, 6)) {
     case 0: damage_byte(g, c); break;
     case 1: damage_to_waiting(g, c); break;
     case 2: damage_line(g, c); break;
@@ -197,6 +208,7 @@ static void damage(struct generator *g, struct call *c)
     case 7: damage_counters(g, c); break;
     case 8: damage_cells(g, c); break;
     case 9: damage_mark(g, c); break;
+    case 10: damage_way(g, c); break;
     default: damage_page(g, c); break;
     }
     if (g->undo_count < CHANGES_MOST && percent(g, 12))

@@ -1,5 +1,5 @@
-/* The long list (T-02): no byte of a store is set, and yet each counter goes on from FFFF to 0000, and releases are refused with 13. What each step
- * leads to stands here, so that it does not rest on the second program. */
+/* The long list (T-02), made in each way of skipping (T-05): no byte of a store is set, and yet each counter goes on from FFFF to 0000, and releases are
+ * refused with 13. What each step leads to stands here, so that it does not rest on the second program. */
 #include "long_list.h"
 
 #include "programs.h"
@@ -70,6 +70,9 @@ static const struct step steps[] = {
 
 enum { STEPS = sizeof steps / sizeof steps[0] };
 
+/* The printable lines of the shortest form. */
+enum { LINES = 12 };
+
 /* One call on both programs. */
 static bool make_call(struct run *r, enum call_kind kind, uint8_t command)
 {
@@ -79,11 +82,12 @@ static bool make_call(struct run *r, enum call_kind kind, uint8_t command)
     return run_call(r);
 }
 
-/* A Start, with the one byte that each write writes. */
-static bool start(struct run *r)
+/* A Start in a way of skipping, with the one byte that each write writes. */
+static bool start(struct run *r, uint32_t way)
 {
     r->call.form = forms[0];
     r->call.pitch[0] = 10;
+    r->call.skip = way;
     r->call.record[0] = 0xC1;
     r->call.record_len = 1;
     r->call.at_begin = true;
@@ -91,19 +95,43 @@ static bool start(struct run *r)
     return make_call(r, CALL_START, 0);
 }
 
-/* A step's call once; a number other than the step's is printed. */
-static bool take_step_once(struct run *r, const struct step *s)
+/* Whether a field of the library's answer is what it must be; another is printed. */
+static bool field_holds(const struct run *r, const char *name, unsigned field, unsigned expected)
 {
-    bool completes = s->completed != NO_PAGE;
-    if (completes && !(make_call(r, CALL_COMMAND, TRESTLEPIP_WRITE_NO_SPACE) && make_call(r, CALL_COMMAND, s->completed)))
-        return false;
-    if (!make_call(r, s->kind, 0))
-        return false;
-    if (trestlepip_number(r->library_answer) == s->number)
+    if (field == expected)
         return true;
     print_place(r);
-    printf("number %u, must be %u\n", trestlepip_number(r->library_answer), s->number);
+    printf("%s %u, must be %u\n", name, field, expected);
     return false;
+}
+
+/* A job opens with a skip to channel 1, which line 1 has: in the old way that completes an empty page. */
+static bool open_page(struct run *r, bool empty)
+{
+    return make_call(r, CALL_COMMAND, TRESTLEPIP_SKIP(1)) && field_holds(r, "page ready", trestlepip_ready(r->library_answer), empty)
+        && field_holds(r, "lines moved", trestlepip_lines(r->library_answer), empty ? LINES : 0);
+}
+
+/* Clear and Initialize need a page that is started. */
+static bool complete_started(struct run *r, uint8_t command)
+{
+    return make_call(r, CALL_COMMAND, TRESTLEPIP_WRITE_NO_SPACE) && make_call(r, CALL_COMMAND, command);
+}
+
+/* In the old way the empty page serves where Clear would complete one; before Initialize none is opened. */
+static bool complete_page(struct run *r, uint8_t command)
+{
+    if (r->call.skip == TRESTLEPIP_OLD_WAY)
+        return command == BY_CLEAR ? open_page(r, true) : complete_started(r, command);
+    return open_page(r, false) && complete_started(r, command);
+}
+
+/* A step's call once. */
+static bool take_step_once(struct run *r, const struct step *s)
+{
+    if (s->completed != NO_PAGE && !complete_page(r, s->completed))
+        return false;
+    return make_call(r, s->kind, 0) && field_holds(r, "number", trestlepip_number(r->library_answer), s->number);
 }
 
 /* Whether the library's counters are those that the step leads to. */
@@ -127,16 +155,24 @@ static bool step_holds(struct run *r, const struct step *s)
     return counters_hold(r, s);
 }
 
+/* The list in one way of skipping. */
+static bool holds_in(struct run *r, uint32_t way)
+{
+    unsigned step = 0;
+    r->list++;
+    begin_list(r);
+    bool holds = start(r, way);
+    while (holds && step < STEPS)
+        holds = step_holds(r, &steps[step++]);
+    printf("the long list in the %s way of skipping, %llu calls, %u of %u steps: %s\n", way == TRESTLEPIP_NEW_WAY ? "new" : "old", r->call_in_list, step,
+            (unsigned)STEPS, holds ? "0 differences" : "a difference");
+    return holds;
+}
+
 bool long_list_holds(void)
 {
-    static struct run r = { .options = { .lists = 1 }, .list = 1 };
-    unsigned step = 0;
+    static struct run r = { .options = { .lists = 2 } };
     make_buffers(&r);
     catch_faults();
-    begin_list(&r);
-    bool holds = start(&r);
-    while (holds && step < STEPS)
-        holds = step_holds(&r, &steps[step++]);
-    printf("the long list, %llu calls, %u of %u steps: %s\n", r.calls_made, step, (unsigned)STEPS, holds ? "0 differences" : "a difference");
-    return holds;
+    return holds_in(&r, TRESTLEPIP_NEW_WAY) && holds_in(&r, TRESTLEPIP_OLD_WAY);
 }

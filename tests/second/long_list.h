@@ -4,7 +4,7 @@
 
 #include <stdbool.h>
 
-/* Runs the long list on both programs; false once a difference, or a number or counter that must not be, has been printed. */
+/* Runs the long list on both programs, in each way of skipping; false once a difference, or what must not be, has been printed. */
 bool long_list_holds(void);
 
 #endif

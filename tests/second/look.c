@@ -79,6 +79,19 @@ bool written_now(const struct generator *g)
     return state_of(g)[TRESTLEPIP_AT_WRITTEN] == 1;
 }
 
+/* The lines are numbered from the one that begins half an inch below the fold. */
+unsigned channel_of_line(const uint8_t *state)
+{
+    unsigned top = 0, line = 0;
+    for (unsigned i = 0; i < state[TRESTLEPIP_AT_FCB_COUNT] && i < TRESTLEPIP_FCB_MOST; i++) {
+        line += top >= 12;
+        if (line != 0 && line == state[TRESTLEPIP_AT_LINE])
+            return state[TRESTLEPIP_AT_FCB + i] % 16;
+        top += units(state[TRESTLEPIP_AT_FCB + i]);
+    }
+    return 0;
+}
+
 /* A channel that some line of the FCB has, or any if the line looked at has none. */
 unsigned channel_near(struct generator *g)
 {

@@ -3,7 +3,8 @@
 
 #include <string.h>
 
-/* Chances in a thousand that a call is a station, cancel or restart call, by the pages that are out; bad counters or marks have one of their own. */
+/* Chances in a thousand that a call is a station, cancel or restart call, by the pages that are out; what each of them is to get 9 for has one of
+ * its own. */
 enum { PERMILLE_NONE_OUT = 20, PERMILLE_SOME_OUT = 90, PERMILLE_MOST_OUT = 250, PERMILLE_DAMAGED = 400 };
 
 enum { STATIONS = COUNTERS - 1, NEAR_WRAP = 6, FEW_OUT = 5 };
@@ -20,10 +21,10 @@ unsigned counter_of(const uint8_t *state, unsigned counter)
 
 /* ---- calls ---- */
 
-/* Whether the counters or a mark are bad: each of these calls is to get 9 for either. */
+/* Whether the counters, a mark or the way of skipping are bad: each of these calls is to get 9 for any of them. */
 static bool is_damaged(const struct generator *g)
 {
-    return !trestlepip_counters_are_reachable(state_of(g)) || bad_mark_now(g);
+    return !trestlepip_counters_are_reachable(state_of(g)) || bad_mark_now(g) || state_of(g)[TRESTLEPIP_AT_SKIP] > TRESTLEPIP_OLD_WAY;
 }
 
 /* With the most pages out only these calls let a page be released, so they come often then. */
