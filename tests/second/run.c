@@ -9,6 +9,7 @@
 #include "making.h"
 #include "programs.h"
 #include "report.h"
+#include "skip_law.h"
 
 #include <stdio.h>
 #include <string.h>
@@ -128,24 +129,40 @@ static void show_progress(const struct run *r)
     fprintf(stderr, "%llu of %llu calls\r", r->calls_made, r->options.calls);
 }
 
-/* What is wrong in what the library did, whatever the second program did; null for each that is as it must be. */
+/* Parts of what the library did, and what is wrong in each whatever the second program did; null where nothing is. */
+enum { OWN_FAULTS = 5 };
+
 struct own_faults {
-    const char *telling, *page, *counting, *feet;
+    struct {
+        const char *of, *what;
+    } part[OWN_FAULTS];
 };
 
 static struct own_faults find_own_faults(const struct run *r)
 {
     const uint8_t *state = store(r->library, STATE), *feet = last_bytes(r->library, FEET, FEET_BYTES);
-    return (struct own_faults){ .telling = telling_fault(r), .page = page_fault(r),
-            .counting = counting_fault(&r->law, &r->call, r->library_answer, r->before[STATE], state),
-            .feet = feet_fault(&r->call, r->library_answer, feet) };
+    return (struct own_faults){ {
+            { "answer by itself", telling_fault(r) },
+            { "page or copy by itself", page_fault(r) },
+            { "counters by themselves", counting_fault(&r->law, &r->call, r->library_answer, r->before[STATE], state) },
+            { "feet by themselves", feet_fault(&r->call, r->library_answer, feet) },
+            { "skip by itself", skip_fault(r) },
+    } };
 }
 
-/* One such fault, if there is. */
-static void print_own_fault(const char *what, const char *fault)
+static bool has_own_fault(const struct own_faults *own)
 {
-    if (fault != NULL)
-        printf("the library's %s: %s\n", what, fault);
+    for (unsigned i = 0; i < OWN_FAULTS; i++)
+        if (own->part[i].what != NULL)
+            return true;
+    return false;
+}
+
+static void print_own_faults(const struct own_faults *own)
+{
+    for (unsigned i = 0; i < OWN_FAULTS; i++)
+        if (own->part[i].what != NULL)
+            printf("the library's %s: %s\n", own->part[i].of, own->part[i].what);
 }
 
 /* Compares all that the call left; prints the first difference. */
@@ -155,16 +172,13 @@ static bool agree(const struct run *r)
     bool same_answer = r->library_answer == r->second_answer;
     bool buffers = buffers_differ(r, &d) || refusal_changes(r, &d) || feet_change_store(r, &d);
     struct own_faults own = find_own_faults(r);
-    if (same_answer && !buffers && own.telling == NULL && own.page == NULL && own.counting == NULL && own.feet == NULL)
+    if (same_answer && !buffers && !has_own_fault(&own))
         return true;
     print_place(r);
     print_answers("library", r->library_answer, "second", r->second_answer);
     if (buffers)
         print_difference(&d);
-    print_own_fault("answer by itself", own.telling);
-    print_own_fault("page or copy by itself", own.page);
-    print_own_fault("counters by themselves", own.counting);
-    print_own_fault("feet by themselves", own.feet);
+    print_own_faults(&own);
     return false;
 }
 
