@@ -72,7 +72,7 @@ static void move_command(struct generator *g, struct call *c)
 /* Whether it is time for a skip to the channel that the current line has itself; mostly where nothing is written there, so that it may stand. */
 static bool skip_here_due(struct generator *g)
 {
-    return channel_of_line(state_of(g)) != 0 && percent(g, written_now(g) ? 2 : 6);
+    return channel_of_line(state_of(g)) != 0 && percent(g, written_now(g) ? 3 : 6);
 }
 
 /* Such a skip: mostly immediate, else after a write. */
@@ -353,10 +353,12 @@ void generator_begin(struct generator *g, uint64_t seed, uint64_t list, bool cal
     memcpy(g->stores, stores, sizeof g->stores);
 }
 
-/* Now and then counters are set that calls would lead to after very many pages; not amid damage, which is put back. */
+/* Now and then counters are set that calls would lead to after very many pages, more often while a reset is due; not amid damage, which is put
+ * back. */
 static void tend_counters(struct generator *g, struct call *c)
 {
-    c->sets_counters = g->made > 1 && g->undo_count == 0 && permille(g, g->permille_counters);
+    unsigned times = state_of(g)[TRESTLEPIP_AT_RESET_DUE] == 1 ? 4 : 1;
+    c->sets_counters = g->made > 1 && g->undo_count == 0 && permille(g, times * g->permille_counters);
     if (c->sets_counters)
         reachable_counters(g, TRESTLEPIP_MOST_PAGES, c->counters);
 }

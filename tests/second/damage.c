@@ -71,7 +71,7 @@ static void damage_way(struct generator *g, struct call *c)
     bool is_new = state_of(g)[TRESTLEPIP_AT_SKIP] == TRESTLEPIP_NEW_WAY;
     unsigned bad = percent(g, 50) ? neither[below(g, COUNT(neither))] : between(g, TRESTLEPIP_OLD_WAY + 1, 0xFF);
     unsigned other = is_new ? TRESTLEPIP_OLD_WAY : TRESTLEPIP_NEW_WAY;
-    set_byte(g, c, STATE, TRESTLEPIP_AT_SKIP, percent(g, 50) ? other : bad);
+    set_byte(g, c, STATE, TRESTLEPIP_AT_SKIP, percent(g, 40) ? other : bad);
 }
 
 /* A page that waits though none was completed, in a state that is mostly a printer's otherwise. */
@@ -197,7 +197,7 @@ static void damage_counters(struct generator *g, struct call *c)
 static void damage(struct generator *g, struct call *c)
 {
     g->damage_left = between(g, 2, 6);
-    switch (started_now(g) ? WEIGHTED(g, 50, 12, 12, 8, 5, 8, 10, 12, 40, 25, 20, 4) : WEIGHTED(g, 40, 7, 7, 8, 5, 8, 8, 12, 50, 25, 20, 6)) {
+    switch (started_now(g) ? WEIGHTED(g, 50, 12, 12, 8, 5, 8, 10, 12, 50, 25, 20, 4) : WEIGHTED(g, 40, 7, 7, 8, 5, 8, 8, 12, 60, 25, 20, 6)) {
     case 0: damage_byte(g, c); break;
     case 1: damage_to_waiting(g, c); break;
     case 2: damage_line(g, c); break;
@@ -232,7 +232,7 @@ void tend_damage(struct generator *g, struct call *c)
 {
     if (g->undo_count > 0 && --g->damage_left == 0)
         end_damage(g, c);
-    else if (g->undo_count == 0 && g->made > 1 && permille(g, started_now(g) ? 14 : 48))
+    else if (g->undo_count == 0 && g->made > 1 && permille(g, started_now(g) ? 16 : 53))
         damage(g, c);
     for (size_t i = 0; i < g->undo_count; i++)
         c->damaged[g->undo[i].store] = true;

@@ -1,5 +1,5 @@
-/* The long list (T-02), made in each way of skipping (T-05): no byte of a store is set, and yet each counter goes on from FFFF to 0000, and releases are
- * refused with 13. What each step leads to stands here, so that it does not rest on the second program. */
+/* The long list (T-02), made in each way of skipping (T-05): no byte of a store is set, and yet each counter goes on from FFFF to 0000, and releases
+ * are refused with 13. What each step leads to stands here, so that it does not rest on the second program. */
 #include "long_list.h"
 
 #include "programs.h"
@@ -164,8 +164,8 @@ static bool holds_in(struct run *r, uint32_t way)
     bool holds = start(r, way);
     while (holds && step < STEPS)
         holds = step_holds(r, &steps[step++]);
-    printf("the long list in the %s way of skipping, %llu calls, %u of %u steps: %s\n", way == TRESTLEPIP_NEW_WAY ? "new" : "old", r->call_in_list, step,
-            (unsigned)STEPS, holds ? "0 differences" : "a difference");
+    printf("the long list in the %s way of skipping, %llu calls, %u of %u steps: %s\n", way == TRESTLEPIP_NEW_WAY ? "new" : "old", r->call_in_list,
+            step, (unsigned)STEPS, holds ? "0 differences" : "a difference");
     return holds;
 }
 

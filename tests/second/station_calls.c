@@ -47,10 +47,10 @@ static bool can_pass(const struct generator *g, unsigned counter)
     return counter_of(state_of(g), counter) != counter_of(state_of(g), counter - 1);
 }
 
-/* A page passes a station: mostly one that a page can pass, if there is one. */
+/* A page passes a station: mostly one that a page can pass, if there is one; any, if all are to get 9. */
 static enum call_kind report(struct generator *g)
 {
-    bool any = percent(g, 12);
+    bool any = is_damaged(g) || percent(g, 12);
     unsigned first = below(g, STATIONS), passed = 0;
     while (!any && passed < STATIONS && !can_pass(g, TRANSFER + (first + passed) % STATIONS))
         passed++;
