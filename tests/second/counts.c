@@ -245,6 +245,7 @@ static void add_to_list(struct counts *n, const struct call *c, uint64_t answer,
     bool taken = trestlepip_number(answer) == 0, released = c->kind == CALL_RELEASE && taken;
     bool initialized = c->kind == CALL_COMMAND && c->command == TRESTLEPIP_INITIALIZE && taken;
     n->list.disturbed = n->list.disturbed || (disturbs(c) && n->list.calls != 0);
+    n->list.old_way = n->list.calls == 0 ? c->skip == TRESTLEPIP_OLD_WAY : n->list.old_way;
     n->list.calls++;
     n->list.releases += released;
     n->list.resets_at_once += initialized && !trestlepip_ready(answer);
@@ -261,6 +262,7 @@ static void add_undisturbed(struct counts *n, const struct list_counts *list)
 {
     n->lists_long += list->calls >= LONG_LIST;
     n->lists_of_pages += list->calls >= LONG_LIST && list->releases >= MANY_PAGES;
+    n->lists_of_way[list->old_way] += list->calls >= LONG_LIST;
     n->undisturbed.resets_at_once += list->resets_at_once;
     n->undisturbed.resets_deferred += list->resets_deferred;
     n->undisturbed.nines += list->nines;
@@ -290,5 +292,6 @@ void counts_add(struct counts *n, const struct call *c, uint64_t answer, uint8_t
         add_damage(n, c, answer);
     page_counts_add(&n->pages, c, trestlepip_number(answer), before, after[STATE]);
     mark_counts_add(&n->marks, c, trestlepip_number(answer), before, out);
+    skip_counts_add(&n->skips, c, answer, before, after[STATE]);
     add_to_list(n, c, answer, before[STATE]);
 }

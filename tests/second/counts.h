@@ -6,12 +6,13 @@
 #include "feet_law.h"
 #include "table.h"
 
-enum { NUMBERS = TRESTLEPIP_BAD_PAPER + 1, CAUSES = 11, TALLIES = 5 };
+enum { NUMBERS = TRESTLEPIP_BAD_PAPER + 1, CAUSES = 11, TALLIES = 5, SKIP_WAYS = TRESTLEPIP_OLD_WAY + 1 };
 
-/* What a list has met; it is disturbed by a Start after its first call, by a byte that the driver sets, and by a store of wrong size. */
+/* What a list has met, and the way of skipping that its first call asked for; it is disturbed by a Start after that call, by a byte that the driver
+ * sets, and by a store of wrong size. */
 struct list_counts {
     unsigned long calls, releases, resets_at_once, resets_deferred, nines;
-    bool disturbed;
+    bool old_way, disturbed;
 };
 
 /* Accepted writes, or legend loads, that tell an unprintable position: by the switch, by how many they tell, by where in its text the first one is,
@@ -55,6 +56,20 @@ struct feet_counts {
     unsigned long rounded[ROUNDINGS];
 };
 
+/* Start's choice: accepted by the way of skipping, refused with 10 because it is neither, or with 9 before that. Immediate skips that stood, by where
+ * they did; those that moved, by what kept them from standing; and those refused with 4 that would have stood. Writes and skips to their line's own
+ * channel, by the way and by whether the line was written before. Commands and resets by the way; calls refused with 9 for the way alone; ways that
+ * the driver set and a call took. The latest call landed if it was a skip that moved to its channel. */
+struct skip_counts {
+    unsigned long started[SKIP_WAYS], neither, neither_by_high_bits, neither_and_form, sizes_first;
+    unsigned long stood_at_first, stood_at_last, stood_later, stood_among_lines, stood_after_landing, stood_at_9_or_12, stood_over_sense;
+    unsigned long moved_written, moved_old, moved_other_channel, moved_no_channel, waits;
+    unsigned long write_and_skip[SKIP_WAYS][2];
+    unsigned long commands[SKIP_WAYS], resets[SKIP_WAYS];
+    unsigned long bad_way[CALL_KINDS], lent[SKIP_WAYS];
+    bool landed;
+};
+
 struct counts {
     unsigned long number[NUMBERS];
     unsigned long cause[CAUSES];
@@ -71,11 +86,12 @@ struct counts {
     unsigned long copy, copy_covered, copy_overlapped, copy_above_255, copy_of_last_number, copy_of_most_lines;
     unsigned long start_refused_sized;
     unsigned long state_refused, state_taken, legends_refused, legends_taken, page_refused, cells_taken;
-    unsigned long lists_long, lists_of_pages;
+    unsigned long lists_long, lists_of_pages, lists_of_way[SKIP_WAYS];
     unsigned long run_so_far, runs, runs_short;
     struct page_counts pages;
     struct mark_counts marks;
     struct feet_counts feet;
+    struct skip_counts skips;
     struct list_counts list, undisturbed;
 };
 
@@ -105,6 +121,9 @@ void page_counts_add(struct page_counts *n, const struct call *c, unsigned numbe
 
 /* Adds a call for feet of paper: its number, and the double's bytes after it. */
 void feet_counts_add(struct feet_counts *n, const struct call *c, unsigned number, const uint8_t *feet);
+
+/* Adds what one call did with the way of skipping: its answer, the stores before it, and the state after it. */
+void skip_counts_add(struct skip_counts *n, const struct call *c, uint64_t answer, uint8_t *const before[STORES], const uint8_t *after);
 
 /* Adds the list whose last call was added: only now is it known whether it was disturbed. */
 void counts_end_list(struct counts *n);

@@ -16,7 +16,7 @@ static void number_rows(struct table *t, const struct counts *n)
     static const char *const names[NUMBERS] = {
         "number 0: accepted", "number 1: byte not listed", "number 2: write or load record", "number 3: load check",
         "number 4: page waiting", "number 5: load on a started page", "number 6: no page waiting", "number 7: copy index",
-        "number 8: output or reply too short", "number 9: store of wrong size or contents", "number 10: form or pitch not listed",
+        "number 8: output or reply too short", "number 9: store of wrong size or contents", "number 10: form, pitch or way of skipping",
         "number 11: two pages completed", "number 12: no page between a station and the one before it",
         "number 13: 32,767 pages released and not stacked", "number 14: no call gives it", "number 15: no call gives it",
         "number 16: form length or copies of Feet"
@@ -242,6 +242,52 @@ static void feet_rows(struct table *t, const struct feet_counts *n)
             { "feet told that are rounded up", n->rounded[ROUNDED_UP], 20 }, { "feet told that are rounded down", n->rounded[ROUNDED_DOWN], 20 });
 }
 
+/* Start's choice of the way of skipping, and what was done in each way. */
+static void way_rows(struct table *t, const struct skip_counts *n)
+{
+    TABLE_ADD_ROWS(t, { "Start in the new way", n->started[TRESTLEPIP_NEW_WAY], 200 },
+            { "Start in the old way", n->started[TRESTLEPIP_OLD_WAY], 200 },
+            { "Start refused with 10 for the way of skipping alone", n->neither, 20 },
+            { "Start refused with 10 for the high bits of the way alone", n->neither_by_high_bits, 5 },
+            { "Start refused with 10 for the way and a form or pitch", n->neither_and_form, 5 },
+            { "Start refused with 9 for a size, the way being neither", n->sizes_first, 5 },
+            { "command accepted in the new way", n->commands[TRESTLEPIP_NEW_WAY], 200 },
+            { "command accepted in the old way", n->commands[TRESTLEPIP_OLD_WAY], 200 },
+            { "reset done in the new way", n->resets[TRESTLEPIP_NEW_WAY], 20 }, { "reset done in the old way", n->resets[TRESTLEPIP_OLD_WAY], 20 },
+            { "new way set by the driver, taken", n->lent[TRESTLEPIP_NEW_WAY], 5 },
+            { "old way set by the driver, taken", n->lent[TRESTLEPIP_OLD_WAY], 5 });
+}
+
+/* Skips that stood, and those that moved though one thing more or less would have let them stand. */
+static void skip_rows(struct table *t, const struct skip_counts *n)
+{
+    TABLE_ADD_ROWS(t, { "skip that stood at line 1", n->stood_at_first, 20 }, { "skip that stood at another line", n->stood_later, 20 },
+            { "skip that stood at the last line", n->stood_at_last, 1 },
+            { "skip that stood, other lines of the page written", n->stood_among_lines, 20 },
+            { "skip that stood, the call before it a skip that landed there", n->stood_after_landing, 20 },
+            { "skip that stood on a line of channel 9 or 12", n->stood_at_9_or_12, 20 },
+            { "skip that stood, and set the sense anew", n->stood_over_sense, 20 },
+            { "skip to its line's own channel that moved: the line is written", n->moved_written, 20 },
+            { "skip to its line's own channel that moved: the old way", n->moved_old, 20 },
+            { "skip in the new way from an unwritten line of another channel", n->moved_other_channel, 20 },
+            { "skip in the new way from an unwritten line of no channel", n->moved_no_channel, 20 },
+            { "skip to its line's own channel, new way, refused with 4", n->waits, 5 },
+            { "write and skip to its line's own channel, new way, first write", n->write_and_skip[TRESTLEPIP_NEW_WAY][0], 20 },
+            { "write and skip to its line's own channel, new way, later write", n->write_and_skip[TRESTLEPIP_NEW_WAY][1], 20 },
+            { "write and skip to its line's own channel, old way, first write", n->write_and_skip[TRESTLEPIP_OLD_WAY][0], 20 },
+            { "write and skip to its line's own channel, old way, later write", n->write_and_skip[TRESTLEPIP_OLD_WAY][1], 20 });
+}
+
+/* Every call that is lent the stores, except Start, judges the way of skipping. */
+static void bad_way_rows(struct table *t, const struct skip_counts *n)
+{
+    char name[NAME_ROOM];
+    for (enum call_kind i = CALL_COMMAND; i < CALL_KINDS; i++) {
+        snprintf(name, sizeof name, "number 9 for the way of skipping alone: %s", call_name[i]);
+        table_add(t, name, n->bad_way[i], 5);
+    }
+}
+
 /* Refused Starts and damage. */
 static void damage_rows(struct table *t, const struct counts *n)
 {
@@ -256,6 +302,8 @@ static void list_rows(struct table *t, const struct counts *n)
 {
     TABLE_ADD_ROWS(t, { "undisturbed list of 1,000 calls or more", n->lists_long, 10 },
             { "such a list with 100 released pages or more", n->lists_of_pages, 10 },
+            { "such a list in the new way", n->lists_of_way[TRESTLEPIP_NEW_WAY], 1 },
+            { "such a list in the old way", n->lists_of_way[TRESTLEPIP_OLD_WAY], 1 },
             { "reset at once in an undisturbed list", n->undisturbed.resets_at_once, 20 },
             { "deferred reset done in an undisturbed list", n->undisturbed.resets_deferred, 20 },
             { "number 9 in an undisturbed list", n->undisturbed.nines, NEVER }, { "undisturbed run of calls", n->runs, 1 },
@@ -280,6 +328,9 @@ struct faults counts_print(const struct counts *n)
     mark_rows(&t, &n->marks);
     bad_mark_rows(&t, &n->marks);
     feet_rows(&t, &n->feet);
+    way_rows(&t, &n->skips);
+    skip_rows(&t, &n->skips);
+    bad_way_rows(&t, &n->skips);
     damage_rows(&t, n);
     list_rows(&t, n);
     return table_print(&t);

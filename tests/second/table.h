@@ -5,7 +5,7 @@
 #include <limits.h>
 #include <stddef.h>
 
-enum { NAME_ROOM = 72, ROWS_MOST = 256 };
+enum { NAME_ROOM = 72, ROWS_MOST = 320 };
 
 /* In place of a least count: the count has to be 0. */
 #define NEVER ULONG_MAX
