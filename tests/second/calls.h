@@ -120,6 +120,10 @@ void generator_next(struct generator *g, unsigned answered, struct call *c);
 /* The channel of a state's current line; 0 if the line has none, or the form no such line. */
 unsigned channel_of_line(const uint8_t *state);
 
+/* Whether the call is an immediate skip to the current line's own channel, with nothing written on that line: it stands in the new way, and moves in
+ * the old. */
+bool skips_where_it_stands(const struct call *c, const uint8_t *state);
+
 /* A page counter of a state. */
 unsigned counter_of(const uint8_t *state, unsigned counter);
 

@@ -51,12 +51,12 @@ static void add_stood(struct skip_counts *n, unsigned channel, uint8_t *const be
 }
 
 /* An accepted immediate skip that moved, by what the line had that it began on. */
-static void add_moved(struct skip_counts *n, unsigned channel, const uint8_t *before)
+static void add_moved(struct skip_counts *n, const struct call *c, const uint8_t *before)
 {
-    unsigned here = channel_of_line(before);
+    unsigned here = channel_of_line(before), channel = immediate_channel(c);
     bool new_way = way_of(before) == TRESTLEPIP_NEW_WAY, written = is_written(before);
     n->moved_written += new_way && written && here == channel;
-    n->moved_old += !new_way && !written && here == channel;
+    n->moved_old += !new_way && skips_where_it_stands(c, before);
     n->moved_other_channel += new_way && !written && here != channel && here != 0;
     n->moved_no_channel += new_way && !written && here == 0;
 }
@@ -65,15 +65,14 @@ static void add_moved(struct skip_counts *n, unsigned channel, const uint8_t *be
 static void add_immediate(struct skip_counts *n, const struct call *c, uint64_t answer, uint8_t *const before[STORES])
 {
     const uint8_t *state = before[STATE];
-    unsigned channel = immediate_channel(c), number = trestlepip_number(answer);
-    bool here_new = way_of(state) == TRESTLEPIP_NEW_WAY && channel_of_line(state) == channel;
-    n->waits += number == TRESTLEPIP_PAGE_WAITING && here_new;
+    unsigned number = trestlepip_number(answer);
+    n->waits += number == TRESTLEPIP_PAGE_WAITING && way_of(state) == TRESTLEPIP_NEW_WAY && skips_where_it_stands(c, state);
     if (number != TRESTLEPIP_ACCEPTED)
         return;
     if (trestlepip_lines(answer) == 0)
-        add_stood(n, channel, before);
+        add_stood(n, immediate_channel(c), before);
     else
-        add_moved(n, channel, state);
+        add_moved(n, c, state);
 }
 
 /* An accepted write and skip. */

@@ -92,6 +92,12 @@ unsigned channel_of_line(const uint8_t *state)
     return 0;
 }
 
+bool skips_where_it_stands(const struct call *c, const uint8_t *state)
+{
+    unsigned channel = immediate_channel(c);
+    return channel != 0 && channel_of_line(state) == channel && state[TRESTLEPIP_AT_WRITTEN] == 0;
+}
+
 /* A channel that some line of the FCB has, or any if the line looked at has none. */
 unsigned channel_near(struct generator *g)
 {

@@ -3,14 +3,6 @@
 
 #include <string.h>
 
-/* An immediate skip stands in the new way, with nothing written on the current line, if that line has its channel; no write and skip does. */
-static bool has_to_stand(const struct call *c, const uint8_t *before)
-{
-    unsigned channel = immediate_channel(c);
-    return channel != 0 && before[TRESTLEPIP_AT_SKIP] == TRESTLEPIP_NEW_WAY && before[TRESTLEPIP_AT_WRITTEN] == 0
-        && channel_of_line(before) == channel;
-}
-
 /* Whether a skip that stood left the state as it was, except its sense, which it sets anew to 00. */
 static bool state_stood(const uint8_t *before, const uint8_t *after)
 {
@@ -39,8 +31,8 @@ const char *skip_fault(const struct run *r)
     bool is_skip = immediate_channel(c) != 0 || write_channel(c) != 0;
     if (!is_skip || trestlepip_number(r->library_answer) != TRESTLEPIP_ACCEPTED)
         return NULL;
-    bool stood = trestlepip_lines(r->library_answer) == 0;
-    if (stood != has_to_stand(c, r->before[STATE]))
+    bool stood = trestlepip_lines(r->library_answer) == 0, new_way = r->before[STATE][TRESTLEPIP_AT_SKIP] == TRESTLEPIP_NEW_WAY;
+    if (stood != (new_way && skips_where_it_stands(c, r->before[STATE])))
         return stood ? "0 lines moved, and it had to move" : "lines moved, and it had to stand";
     return stood ? standing_fault(r) : NULL;
 }
