@@ -14,22 +14,23 @@
 enum { PAST_MOST = 400, DEEDS_MOST = 400, LEFT_OUT_MOST = 8, TRIES_MOST = 100000, PERMILLE_WRONG_SIZE = 20, GAP_MOST = 3 };
 
 /* How the counters of a pair come to agree at the reset: by calls; set in the state's bytes, before the pasts too; or because nothing was counted. */
-enum way { BY_CALLS, BY_BYTES, UNCOUNTED, WAYS };
+enum means { BY_CALLS, BY_BYTES, UNCOUNTED, MEANS };
 
 /* What the pairs met; calls left out are counted from the reset on. */
 struct met {
     unsigned long start_alone, at_once, deferred, each_way, switch_on, switch_off;
-    unsigned long unlike[STORES], counters_unlike[WAYS], counters_zero[WAYS];
+    unsigned long unlike[STORES], counters_unlike[MEANS], counters_zero[MEANS];
     unsigned long past_calls, deeds[CALL_KINDS], resets;
+    unsigned long started[SKIP_WAYS], stood_in_past, stood, pairs_stood, moved_old;
     unsigned long refused[NUMBERS], no_op, sense, compose, feet;
     unsigned long pages, pages_with_legends, pages_with_marks, copies;
 };
 
-/* A run: the pair, the way of its counters and the goal that they are brought to, one page before they agree; the generator of its deeds, and what all
- * pairs met. */
+/* A run: the pair, the means by which its counters agree and the goal that they are brought to, one page before they agree; the generator of its
+ * deeds, and what all pairs met. */
 struct demand_3 {
     struct pair pair;
-    enum way way;
+    enum means means;
     unsigned goal[COUNTERS];
     uint8_t goal_bytes[COUNTER_BYTES];
     struct generator deeds;
@@ -62,6 +63,7 @@ static void start_pair(struct demand_3 *d)
     generator_next(&d->deeds, 0, &p->deed);
     for (unsigned i = 0; i < SIDES; i++)
         p->side[i].answer = pair_call(p, &p->side[i].set, &p->deed);
+    d->met.started[p->deed.skip == TRESTLEPIP_OLD_WAY]++;
 }
 
 static void set_counters(struct side *s, const uint8_t bytes[COUNTER_BYTES])
@@ -75,15 +77,22 @@ static bool completes(const struct pair *p, const struct side *s)
     return trestlepip_ready(answer_on_copy(p, &s->set, &s->call)) == 1;
 }
 
+/* Whether a call is an immediate skip that stood. */
+static bool is_stood(const struct call *c, uint64_t answer)
+{
+    return immediate_channel(c) != 0 && trestlepip_number(answer) == 0 && trestlepip_lines(answer) == 0;
+}
+
 /* A past of the printer's own; if nothing is to be counted, it completes no page. */
 static void live_past(struct demand_3 *d, struct side *s)
 {
     for (unsigned left = between(&s->generator, 1, PAST_MOST); left > 0; left--) {
         generator_next(&s->generator, trestlepip_number(s->answer), &s->call);
-        if (d->way == UNCOUNTED && completes(&d->pair, s))
+        if (d->means == UNCOUNTED && completes(&d->pair, s))
             continue;
         s->answer = pair_call(&d->pair, &s->set, &s->call);
         d->met.past_calls++;
+        d->met.stood_in_past += is_stood(&s->call, s->answer);
     }
 }
 
@@ -127,7 +136,7 @@ static void approach_reset(struct demand_3 *d, struct side *s, bool switch_on)
     pair_tally(p, s, CALL_RESTART);
     pair_release(p, s);
     pair_tally(p, s, CALL_RESTART);
-    if (d->way == BY_BYTES)
+    if (d->means == BY_BYTES)
         set_counters(s, d->goal_bytes);
     else
         reach_goal(p, s, d->goal);
@@ -163,19 +172,20 @@ static void live_pasts(struct demand_3 *d)
     for (unsigned i = 0; i < SIDES; i++) {
         struct side *s = &d->pair.side[i];
         reachable_counters(&s->generator, TRESTLEPIP_MOST_PAGES, bytes);
-        if (d->way == BY_BYTES)
+        if (d->means == BY_BYTES)
             set_counters(s, bytes);
         live_past(d, s);
     }
 }
 
-/* Both ways of bringing the counters to agree get their goal; no stacker has to go back for it, and there is room for the page that is counted last. */
+/* Both means of bringing the counters to agree get their goal; no stacker has to go back for it, and there is room for the page that is counted
+ * last. */
 static void choose_goal(struct demand_3 *d)
 {
     unsigned a = counter_of(store(&d->pair.side[0].set, STATE), STACKER), b = counter_of(store(&d->pair.side[1].set, STATE), STACKER);
     d->goal[STACKER] = a > b ? a : b;
     for (unsigned i = STACKER; i > CHANNEL; i--)
-        d->goal[i - 1] = d->goal[i] + (d->way == UNCOUNTED ? 0 : below(&d->deeds, GAP_MOST + 1));
+        d->goal[i - 1] = d->goal[i] + (d->means == UNCOUNTED ? 0 : below(&d->deeds, GAP_MOST + 1));
     reachable_counters(&d->deeds, TRESTLEPIP_MOST_PAGES - 1, d->goal_bytes);
 }
 
@@ -185,15 +195,15 @@ static void count_counters(struct demand_3 *d)
     static const uint8_t zeros[COUNTER_BYTES];
     const uint8_t *a = store(&d->pair.side[0].set, STATE) + TRESTLEPIP_AT_CHANNEL_PAGE;
     const uint8_t *b = store(&d->pair.side[1].set, STATE) + TRESTLEPIP_AT_CHANNEL_PAGE;
-    d->met.counters_unlike[d->way] += memcmp(a, b, COUNTER_BYTES) != 0;
-    d->met.counters_zero[d->way] += memcmp(a, zeros, COUNTER_BYTES) == 0 && memcmp(b, zeros, COUNTER_BYTES) == 0;
+    d->met.counters_unlike[d->means] += memcmp(a, b, COUNTER_BYTES) != 0;
+    d->met.counters_zero[d->means] += memcmp(a, zeros, COUNTER_BYTES) == 0 && memcmp(b, zeros, COUNTER_BYTES) == 0;
 }
 
 /* Different pasts, and a finished reset on each printer with the switch alike. */
 static void reset_pair(struct demand_3 *d)
 {
     bool switch_on = percent(&d->deeds, 50);
-    d->way = (enum way)WEIGHTED(&d->deeds, 40, 40, 20);
+    d->means = (enum means)WEIGHTED(&d->deeds, 40, 40, 20);
     live_pasts(d);
     count_counters(d);
     choose_goal(d);
@@ -233,6 +243,8 @@ static void count_deed(struct met *m, const struct call *c, uint64_t answer, con
     m->deeds[c->kind]++;
     m->resets += c->kind == CALL_RELEASE && state_before[TRESTLEPIP_AT_RESET_DUE] == 1;
     m->resets += initialized && !trestlepip_ready(answer);
+    m->stood += is_stood(c, answer);
+    m->moved_old += state_before[TRESTLEPIP_AT_SKIP] == TRESTLEPIP_OLD_WAY && skips_where_it_stands(c, state_before);
 }
 
 /* Some calls that demand 3 leaves out, of this printer's own; a copy shows first whether a call is one. */
@@ -315,9 +327,11 @@ static bool left_out_agrees(struct demand_3 *d)
 static bool deeds_agree(struct demand_3 *d)
 {
     unsigned deeds = between(&d->deeds, 1, DEEDS_MOST);
+    unsigned long stood = d->met.stood;
     for (d->pair.deed_number = 1; d->pair.deed_number <= deeds; d->pair.deed_number++)
         if (!find_deed(d) || !deed_agrees(d) || !left_out_agrees(d))
             return false;
+    d->met.pairs_stood += d->met.stood != stood;
     return true;
 }
 
@@ -353,12 +367,16 @@ static void deed_rows(struct table *t, const struct met *m)
         snprintf(name, sizeof name, "deed: %s", call_name[i]);
         table_add(t, name, m->deeds[i], i == CALL_COMPOSE ? NEVER : 1);
     }
-    table_add(t, "deed that finished a reset", m->resets, 1);
+    TABLE_ADD_ROWS(t, { "deed that finished a reset", m->resets, 1 }, { "deed: skip that stood", m->stood, 1 },
+            { "pair with a skip that stood among its deeds", m->pairs_stood, 1 },
+            { "deed: skip to its line's own channel that moved: the old way", m->moved_old, 1 });
 }
 
 static void reset_rows(struct table *t, const struct met *m)
 {
-    TABLE_ADD_ROWS(t, { "pair whose only reset is the Start", m->start_alone, 1 }, { "printer reset at once", m->at_once, 1 },
+    TABLE_ADD_ROWS(t, { "pair started in the new way", m->started[TRESTLEPIP_NEW_WAY], 1 },
+            { "pair started in the old way", m->started[TRESTLEPIP_OLD_WAY], 1 },
+            { "pair whose only reset is the Start", m->start_alone, 1 }, { "printer reset at once", m->at_once, 1 },
             { "printer reset by Release", m->deferred, 1 }, { "pair with one printer reset each way", m->each_way, 1 },
             { "pair reset with Block on", m->switch_on, 1 }, { "pair reset with Block off", m->switch_off, 1 },
             { "pair whose states differed before the reset", m->unlike[STATE], 1 },
@@ -368,7 +386,7 @@ static void reset_rows(struct table *t, const struct met *m)
             { "pair whose counters differed, and agree at the reset by calls", m->counters_unlike[BY_CALLS], 1 },
             { "pair whose counters differed, and are set to agree at the reset", m->counters_unlike[BY_BYTES], 1 },
             { "pair that had counted nothing before the page of the reset", m->counters_zero[UNCOUNTED], 1 },
-            { "call in a past", m->past_calls, 1 });
+            { "call in a past", m->past_calls, 1 }, { "skip that stood in a past", m->stood_in_past, 1 });
 }
 
 static struct faults print_met(const struct met *m)
