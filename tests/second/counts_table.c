@@ -166,13 +166,13 @@ static void counter_rows(struct table *t, const struct page_counts *n)
             { "number 9 for the counters alone: stacker a page past the fuser", n->stacker_ahead, 20 });
 }
 
-/* Every call that is lent the stores, except Start, judges the counters. */
-static void unreachable_rows(struct table *t, const struct page_counts *n)
+/* Every call that is lent the stores, except Start, judges this part of the state. */
+static void nine_rows(struct table *t, const char *part, const unsigned long count[CALL_KINDS])
 {
     char name[NAME_ROOM];
     for (enum call_kind i = CALL_COMMAND; i < CALL_KINDS; i++) {
-        snprintf(name, sizeof name, "number 9 for the counters alone: %s", call_name[i]);
-        table_add(t, name, n->unreachable[i], 5);
+        snprintf(name, sizeof name, "number 9 for the %s alone: %s", part, call_name[i]);
+        table_add(t, name, count[i], 5);
     }
 }
 
@@ -278,16 +278,6 @@ static void skip_rows(struct table *t, const struct skip_counts *n)
             { "write and skip to its line's own channel, old way, later write", n->write_and_skip[TRESTLEPIP_OLD_WAY][1], 20 });
 }
 
-/* Every call that is lent the stores, except Start, judges the way of skipping. */
-static void bad_way_rows(struct table *t, const struct skip_counts *n)
-{
-    char name[NAME_ROOM];
-    for (enum call_kind i = CALL_COMMAND; i < CALL_KINDS; i++) {
-        snprintf(name, sizeof name, "number 9 for the way of skipping alone: %s", call_name[i]);
-        table_add(t, name, n->bad_way[i], 5);
-    }
-}
-
 /* Refused Starts and damage. */
 static void damage_rows(struct table *t, const struct counts *n)
 {
@@ -323,14 +313,14 @@ struct faults counts_print(const struct counts *n)
     page_rows(&t, n);
     tally_rows(&t, &n->pages);
     counter_rows(&t, &n->pages);
-    unreachable_rows(&t, &n->pages);
+    nine_rows(&t, "counters", n->pages.unreachable);
     merge_rows(&t, &n->marks);
     mark_rows(&t, &n->marks);
     bad_mark_rows(&t, &n->marks);
     feet_rows(&t, &n->feet);
     way_rows(&t, &n->skips);
     skip_rows(&t, &n->skips);
-    bad_way_rows(&t, &n->skips);
+    nine_rows(&t, "way of skipping", n->skips.bad_way);
     damage_rows(&t, n);
     list_rows(&t, n);
     return table_print(&t);
