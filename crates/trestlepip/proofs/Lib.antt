@@ -9,3 +9,4 @@ pub mod Demand3
 pub mod Counting
 pub mod Marks
 pub mod Feet
+pub mod Ways
