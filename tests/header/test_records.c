@@ -160,13 +160,13 @@ static bool is_so(const char *claim)
     return begins(claim, "reply ") && gives_reply(claim + strlen("reply "));
 }
 
-/* The page gives the form and the pitches; its skips go the new way. */
+/* The page gives the form, the pitches and the way of skipping. */
 static void start(const char *numbers)
 {
     struct printer *p = &session.printer;
-    unsigned form, pitch[TRESTLEPIP_MODULES];
-    bool read = sscanf(numbers, "%u %u %u %u %u", &form, &pitch[0], &pitch[1], &pitch[2], &pitch[3]) == 1 + TRESTLEPIP_MODULES;
-    bool started = read && accepted(trestlepip_start(form, pitch[0], pitch[1], pitch[2], pitch[3], TRESTLEPIP_NEW_WAY, STORES(p)));
+    unsigned form, pitch[TRESTLEPIP_MODULES], way;
+    bool read = sscanf(numbers, "%u %u %u %u %u %u", &form, &pitch[0], &pitch[1], &pitch[2], &pitch[3], &way) == 2 + TRESTLEPIP_MODULES;
+    bool started = read && accepted(trestlepip_start(form, pitch[0], pitch[1], pitch[2], pitch[3], way, STORES(p)));
     check(started, "not started: line", session.line);
 }
 

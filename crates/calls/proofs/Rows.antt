@@ -34,7 +34,7 @@ use Rattle.calls.specs.Effects.{refused, done, movedSheet, moveOf, stand
 use Rattle.calls.specs.Calls.{Call, command, compose, release, tally, checkOf, movement, refusalOf, copyAt, doCompose, pageCounted, emptied, released as releasedCore, doRelease, tallying, doTally, perform, effect, step}
 use Rattle.calls.specs.Start.{asked, newWay, oldWay, skipOk, startRefusal, startWorld, noState, noPrinter, startOutcome}
 use Rattle.calls.specs.Lists.{Deed, commanded, wasReleased, wasTallied, worldAfter, counts, readOf, deedOf, finishesReset, copiesOfPage, given, sinceNow, note, sinceOver, sinceReset}
-use Rattle.calls.proofs.Standing.{withWay}
+use Rattle.calls.specs.Ways.{withWay}
 
 -- A printer started over stores full of other bytes, with these pitches on the 3½ inch form; R1 to R12 have all four pitches 10.
 abbrev old : Stores

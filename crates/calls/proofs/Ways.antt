@@ -20,46 +20,49 @@ use Rattle.calls.specs.declared.Control.the-variants.{NoOp, SenseIo, Ini
 use Rattle.calls.specs.declared.Command.{Command}
 use Rattle.calls.specs.declared.Command.the-variants.{Write, Move, Controls, Loads, Unlisted}
 use Rattle.calls.specs.declared.State.{State}
-use Rattle.calls.specs.Core.{Core, World, withState, linesNow, P, started}
+use Rattle.calls.specs.Core.{Core, World, linesNow, P, started}
 use Rattle.calls.specs.Commands.{Issued, decode}
 use Rattle.calls.specs.Contents.{rangesOk, coreOk}
 use Rattle.calls.specs.Reset.{byte3, senseBytes, reset, resetState}
 use Rattle.calls.specs.Effects.{Effect, refused, done, movedCore, moveOf, stands, atOnce, doMove, written, writeCauses, doWrite, loadCheck, loaded, loadCauses, doLoad, completing, doControl, doCommand}
 use Rattle.calls.specs.Calls.{Call, command, compose, release, tally, checkOf, movement, refusalOf, copyAt, doCompose, pageCounted, emptied, released, doRelease, tallying, doTally, perform, sizeOf, effect, Outcome, step}
 use Rattle.calls.specs.Lists.{worldAfter}
-use Rattle.calls.proofs.Standing.{withWay}
+use Rattle.calls.specs.Ways.{withWay, inWay, worldIn, effectIn, commandStands, callStands, noneStands, moveBefore, commandBefore, performBefore, effectBefore}
 use Rattle.calls.proofs.Refused.{refused-effect, accepted-effect, by-outcome}
 
--- The same printer, in the old way or in the new; and what a call does, carried over to it.
-abbrev pub inWay : Bool → Core → Core
-inWay old k = withState k (withWay (k .state) old)
+-- In the old way every call does what it did before this request.
+move-as-before : (k : Core) (m : Motion) → k .state .fixed .old ≡ true → doMove k m ≡ moveBefore k m
+unfolding doMove atOnce stands moveBefore
+move-as-before k m e = rw e
 
-abbrev pub effectIn : Bool → Effect → Effect
-effectIn old e = record { answer = e .answer; core = inWay old (e .core); sense = e .sense; front = e .front }
+command-as-before : (k : Core) (c : Command) (i : Issued) → k .state .fixed .old ≡ true → doCommand k c i ≡ commandBefore k c i
+unfolding doCommand commandBefore
+command-as-before k (Write m) i e = refl
+command-as-before k (Move m) i e = move-as-before k m e
+command-as-before k (Controls c) i e = refl
+command-as-before k (Loads l) i e = refl
+command-as-before k Unlisted i e = refl
 
--- Whether a call is an immediate skip that stands in the new way.
-unfoldable pub wouldStand : State → Command → Bool
-wouldStand s (Write m) = false
-wouldStand s (Move m) = stands (withWay s false) m
-wouldStand s (Controls c) = false
-wouldStand s (Loads l) = false
-wouldStand s Unlisted = false
+perform-as-before : (k : Core) (c : Call) → k .state .fixed .old ≡ true → perform k c ≡ performBefore k c
+unfolding perform performBefore
+perform-as-before k (command i) e = command-as-before k (decode (i .byte)) i e
+perform-as-before k (compose n out) e = refl
+perform-as-before k release e = refl
+perform-as-before k (tally t) e = refl
 
-unfoldable pub standsAt : Core → Call → Bool
-standsAt k (command i) = wouldStand (k .state) (decode (i .byte))
-standsAt k (compose n out) = false
-standsAt k release = false
-standsAt k (tally t) = false
+pub as-before : (k : Core) (c : Call) → k .state .fixed .old ≡ true → effect k c ≡ effectBefore k c
+unfolding effect effectBefore
+as-before k c e = rw (perform-as-before k c e)
 
--- Where it does not it moves, in either way.
+-- Where an immediate skip does not stand it moves, in either way.
 moves : (old : Bool) (s : State) (m : Motion) → stands (withWay s false) m ≡ false → atOnce (withWay s old) m ≡ moveOf s m
 unfolding atOnce stands moveOf linesNow
 moves true s m e = refl
 moves false s m e = rw e
 
 module _ (old : Bool) (k : Core) where
-  same-movement : (c : Command) → wouldStand (k .state) c ≡ false → movement (inWay old k) c ≡ movement k c
-  unfolding movement wouldStand moveOf linesNow
+  same-movement : (c : Command) → commandStands (k .state) c ≡ false → movement (inWay old k) c ≡ movement k c
+  unfolding movement commandStands moveOf linesNow
   same-movement (Write m) e = refl
   same-movement (Move m) e = moves old (k .state) m e ∙ sym (moves (k .state .fixed .old) (k .state) m e)
   same-movement (Controls c) e = refl
@@ -78,8 +81,8 @@ module _ (old : Bool) (k : Core) where
   same-check (Loads CopyNumber) i = refl
   same-check Unlisted i = refl
 
-  same-refusal : (c : Call) → standsAt k c ≡ false → refusalOf (inWay old k) c ≡ refusalOf k c
-  unfolding refusalOf standsAt coreOk rangesOk linesNow
+  same-refusal : (c : Call) → callStands k c ≡ false → refusalOf (inWay old k) c ≡ refusalOf k c
+  unfolding refusalOf callStands coreOk rangesOk linesNow
   same-refusal (command i) e = rw (same-movement (decode (i .byte)) e, same-check (decode (i .byte)) i)
   same-refusal (compose n out) e = refl
   same-refusal release e = refl
@@ -90,8 +93,8 @@ module _ (old : Bool) (k : Core) where
   same-completing due true u e = rw e
   same-completing due false u e = rw e
 
-  same-doing : (c : Command) (i : Issued) → wouldStand (k .state) c ≡ false → doCommand (inWay old k) c i ≡ effectIn old (doCommand k c i)
-  unfolding doCommand doControl doWrite doMove doLoad done movement written writeCauses wouldStand moveOf linesNow loaded loadCauses reset resetState senseBytes byte3 refused
+  same-doing : (c : Command) (i : Issued) → commandStands (k .state) c ≡ false → doCommand (inWay old k) c i ≡ effectIn old (doCommand k c i)
+  unfolding doCommand doControl doWrite doMove doLoad done movement written writeCauses commandStands moveOf linesNow loaded loadCauses reset resetState senseBytes byte3 refused
   same-doing (Write m) i e = refl
   same-doing (Move m) i e =
       ap (λ (v : Moved). done (movedCore false (inWay old k) v) (orUnmatched noCauses (v .missed)) v) (same-movement (Move m) e)
@@ -114,15 +117,15 @@ module _ (old : Bool) (k : Core) where
   same-release true e = rw e
   same-release false e = rw e
 
-  same-perform : (c : Call) → standsAt k c ≡ false → perform (inWay old k) c ≡ effectIn old (perform k c)
-  unfolding perform standsAt doCompose copyAt linesNow doRelease doTally tallying
+  same-perform : (c : Call) → callStands k c ≡ false → perform (inWay old k) c ≡ effectIn old (perform k c)
+  unfolding perform callStands doCompose copyAt linesNow doRelease doTally tallying
   same-perform (command i) e = same-doing (decode (i .byte)) i e
   same-perform (compose n out) e = refl
   same-perform release e = rw (same-release (k .state .sheet .due) refl)
   same-perform (tally t) e = refl
 
   -- Everywhere else a call answers, writes and leaves the same in both.
-  pub elsewhere : (c : Call) → standsAt k c ≡ false → effect (inWay old k) c ≡ effectIn old (effect k c)
+  pub elsewhere : (c : Call) → callStands k c ≡ false → effect (inWay old k) c ≡ effectIn old (effect k c)
   unfolding refused
   elsewhere c e =
       let r = same-refusal c e in
@@ -159,16 +162,8 @@ lines-looked-at s channel = lines-of (stands s (Skip channel))
     lines-of true = refl
     lines-of false = refl
 
--- Over lists of calls: the same worlds but for the way, as long as no call would stand.
-abbrev pub worldIn : Bool → World → World
-worldIn old w = record { core = inWay old (w .core); sense = w .sense }
-
-unfoldable pub noneStands : Core → List Call → Bool
-noneStands k [] = true
-noneStands k (c ∷ cs) = every (not (standsAt k c) ∷ noneStands (effect k c .core) cs ∷ [])
-
--- one call: its answer, its buffer, and all that it leaves
-pub same-step : (old : Bool) (w : World) (c : Call) → standsAt (w .core) c ≡ false
+-- Over steps and lists of calls: the same but for the way, as long as no call is a skip that stands.
+pub same-step : (old : Bool) (w : World) (c : Call) → callStands (w .core) c ≡ false
     → (let o = step w c in step (worldIn old w) c ≡ record { answer = o .answer; buffer = o .buffer; world = worldIn old (o .world) })
 unfolding step
 same-step old w c e = rw (elsewhere old (w .core) c e)
@@ -177,5 +172,5 @@ pub same-list : (old : Bool) (w : World) (cs : List Call) → noneStands (w .cor
 unfolding worldAfter noneStands step
 same-list old w [] e = refl
 same-list old w (c ∷ cs) e =
-    ap (λ (o : Outcome). worldAfter (o .world) cs) (same-step old w c (not-true (standsAt (w .core) c) (every-at 0 _ e)))
+    ap (λ (o : Outcome). worldAfter (o .world) cs) (same-step old w c (not-true (callStands (w .core) c) (every-at 0 _ e)))
     ∙ same-list old (step w c .world) cs (every-at 1 _ e)

@@ -9,3 +9,4 @@ pub mod Premises
 pub mod Lists
 pub mod Pages
 pub mod Marks
+pub mod Ways

@@ -157,6 +157,7 @@ fn skip(lines: &[u8], line: u8, channel: u8) -> Moved
     }
 }
 
+// T-05: a skip leads to the current line, which has its channel.
 fn is_there(lines: &[u8], line: u8, motion: Motion) -> bool
     requires { ⌜ OnForm (now lines) line ⌝ }
     ensures { λ r. ⌜ r ≡ isThere (now (lines .entry)) line motion ⌝ }

@@ -1,7 +1,7 @@
 -- T-05 as a C host sees it: two printers that are started alike but for the way of skipping. As long as no call is an immediate skip that stands in the new
 -- way, each call gets the same answer and buffer from both, and leaves the same bytes but for the one that has the way.
 use Prim.Native.Nat.{ℕ}
-use mathlib.Core.Path.{_≡_, refl, ap, _∙_, sym}
+use mathlib.Core.Path.{_≡_, refl, ap, _∙_}
 use mathlib.Core.Bool.{true, false}
 use mathlib.Core.List.{List}
 use lib.ListN.{length, set}
@@ -9,14 +9,14 @@ use Rattle.numbers.specs.declared.Sense.{Sense}
 use Rattle.calls.specs.declared.State.{State}
 use Rattle.calls.specs.Core.{Stores, World}
 use Rattle.calls.specs.Reset.{resetState, fresh}
-use Rattle.calls.specs.Calls.{Call, Outcome, step}
+use Rattle.calls.specs.Calls.{Call, step}
 use Rattle.calls.specs.Start.{Asked, asked, newWay, oldWay, startWorld}
 use Rattle.calls.specs.Lists.{worldAfter}
-use Rattle.calls.proofs.Standing.{withWay}
-use Rattle.calls.proofs.Ways.{standsAt, worldIn, noneStands, same-step, same-list}
+use Rattle.calls.specs.Ways.{withWay, worldIn, callStands, noneStands}
+use Rattle.calls.proofs.Ways.{same-step, same-list}
 use Rattle.printer.specs.Layout.{skipAt}
 use Rattle.state.specs.State.{bytesOf}
-use Rattle.state.specs.Host.{Called, called, shown, heldOf, callOn, bytesAfter, startBytes}
+use Rattle.state.specs.Host.{called, shown, heldOf, callOn, bytesAfter, startBytes}
 use Rattle.trestlepip.specs.Host.{numberIn}
 use Rattle.trestlepip.proofs.Starts.{call-after-start}
 
@@ -38,7 +38,7 @@ module _ (form : ℕ) (pitches : List ℕ) where
 
   pub ways-alike-in : (s s′ : List ℕ) (m m′ : Stores) → length pitches ≡ 4 → numberIn (startBytes new s m .answer) ≡ 0 → numberIn (startBytes old s′ m′ .answer) ≡ 0
       → (cs : List Call) → noneStands (startWorld new .core) cs ≡ true
-      → (c : Call) → standsAt (worldAfter (startWorld new) cs .core) c ≡ false
+      → (c : Call) → callStands (worldAfter (startWorld new) cs .core) c ≡ false
       → (let k = callOn (bytesAfter (heldOf (startBytes new s m)) cs) c in
       callOn (bytesAfter (heldOf (startBytes old s′ m′)) cs) c ≡ called (k .answer) (k .buffer) (set (k .state) skipAt oldWay) (k .stores))
   ways-alike-in s s′ m m′ four e e′ cs none c moves =
