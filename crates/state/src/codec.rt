@@ -57,14 +57,11 @@ pub fn fixed(s: &[u8]) -> Fixed
     requires { ⌜ length (now s) ≡ stateSize ⌝ }
     ensures { λ r. ⌜ r ≡ stateAt (now (s .entry)) .fixed ⌝ }
 {
+    let mut pitches = [0u8; 4];
+    seq::copy_all(&mut pitches, &s[Printer::PITCHES_AT..Printer::SKIP_AT]);
     Fixed {
         length: pair(s[Printer::LENGTH_AT], s[Printer::LENGTH_AT + 1]),
-        pitches: [
-            s[Printer::PITCHES_AT],
-            s[Printer::PITCHES_AT + 1],
-            s[Printer::PITCHES_AT + 2],
-            s[Printer::PITCHES_AT + 3],
-        ],
+        pitches: pitches,
         old: s[Printer::SKIP_AT] == 1,
     }
 }
