@@ -155,6 +155,24 @@ static void check_jobs(uint32_t way, size_t pages)
     end_run_with(ALL_GOOD, pages, "", "reported, though good: way", way);
 }
 
+/*
+ * On a good sheet the skip that opens a job in the new way leaves no trace. From line 2 it moves, and is reported: so it is sent before the first sheet
+ * of a place, and before no other.
+ */
+static void check_opened(size_t page, bool is_opened)
+{
+    const struct herd herd = {0};
+    const struct plan plan = {&sheet, 1};
+    begin_run();
+    spool_start(&spool, FORM_LENGTH, TRESTLEPIP_NEW_WAY);
+    sheets_load(&spool, "2026-11-16", false);
+    spool_send(&spool, TRESTLEPIP_SPACE_1, NULL, 0);
+    sheet.page = page;
+    sheets_print(&spool, &herd, &plan);
+    const char *text = all_reports(is_opened ? HOLD_BACK : ALL_GOOD, (unsigned)page);
+    check((strstr(text, SAYS_OPENING) != NULL) == is_opened, "opened or not: page", (unsigned)page);
+}
+
 /* A job that stops after its divider: that is a page, and no sheet. */
 static void check_divider(void)
 {
@@ -203,6 +221,8 @@ void test_pages(void)
     check_damaged_mark();
     check_jobs(TRESTLEPIP_NEW_WAY, 4);
     check_jobs(TRESTLEPIP_OLD_WAY, 6);
+    check_opened(1, true);
+    check_opened(2, false);
     check_divider();
     check_divider_not_written();
     check_divider_refused();
