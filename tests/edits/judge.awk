@@ -2,7 +2,7 @@
 
 BEGIN {
     # Refusals that show nothing about the edit's fact: the proof no longer fits the shape of the code, or the prover gave up.
-    wrong = "is not in scope([:;]|$)|has no field|has no `Need-|binders, but its type has room|met a bound|broke off|stopped at the step limit|where one has `Rattle·[^ `]*\\.Lts\\.(Start|Then|Else|After-)"
+    wrong = "is not in scope([:;]|$)|has no field|has no `Need-|has no `Tie`|binders, but its type has room|met a bound|broke off|stopped at the step limit|where one has `Rattle·[^ `]*\\.Lts\\.(Start|Then|Else|After-)"
 }
 
 function ends(text, tail) { return substr(text, length(text) - length(tail) + 1) == tail }
