@@ -134,21 +134,21 @@ module _ (old : Bool) (k : Core) where
       (λ a. refused-effect (inWay old k) c (ap isAccepted r ∙ a) ∙ ap (refused (inWay old k) (sizeOf c)) r)
 
 -- There they differ: in the new way no line is moved, in the old at least one.
+goes-on : (s : State) (m : Motion) → isThere (linesNow s) (s .sheet .line) m ≡ true → s .sheet .line ≤ P s → 1 ≤ P s → 1 ≤ moveOf s m .lines
+unfolding isThere moveOf moved skipped
+goes-on s (Space n) t on some = absurd (false≢true t)
+goes-on s (Skip channel) t on some =
+    let ls = linesNow s in
+    first-some (has ls channel) (round (length ls) (s .sheet .line)) (omega (arith, round-length (length ls) (s .sheet .line) on))
+
 module _ (s : State) (m : Motion) (e : stands (withWay s false) m ≡ true) where
   pub stands-still : atOnce (withWay s false) m ≡ still (s .sheet .line)
   unfolding atOnce
   stands-still = rw e
 
-  goes-on : (m : Motion) → isThere (linesNow s) (s .sheet .line) m ≡ true → s .sheet .line ≤ P s → 1 ≤ P s → 1 ≤ moveOf s m .lines
-  unfolding isThere moveOf moved skipped
-  goes-on (Space n) t on some = absurd (false≢true t)
-  goes-on (Skip channel) t on some =
-      let ls = linesNow s in
-      first-some (has ls channel) (round (length ls) (s .sheet .line)) (omega (arith, round-length (length ls) (s .sheet .line) on))
-
   pub old-goes-on : 1 ≤ s .sheet .line → s .sheet .line ≤ P s → 1 ≤ atOnce (withWay s true) m .lines
   unfolding atOnce stands moveOf linesNow
-  old-goes-on low on = goes-on m (and-right (not (s .sheet .written)) _ e) on (omega (arith, low, on))
+  old-goes-on low on = goes-on s m (and-right (not (s .sheet .written)) _ e) on (omega (arith, low, on))
 
 -- What the lines moved of an immediate skip are: those that it looked at, up to the match, or none where it stands.
 pub lines-looked-at : (s : State) (channel : ℕ)

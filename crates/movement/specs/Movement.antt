@@ -1,5 +1,5 @@
 -- Document 01, "Movement": the lines that a space enters and a skip looks at, and what is reported of them. Every definition here is of
--- that section.
+-- that section, except T-05's `isThere`.
 use Prim.Native.Nat.{ℕ, zero, suc, _+_, _-_, _≤_}
 use mathlib.Core.Bool.{Bool, false, cond, not}
 use mathlib.Core.List.{List, [], _∷_, _++_, map}
