@@ -31,7 +31,7 @@ pub cells-part : (k n : ℕ) (s : List ℕ) → cellsIn (take (2 * n) (drop (2 *
 cells-part k n s = cells-take n (drop (2 * k) s) ∙ ap (take n) (cells-drop k s)
 
 -- Tests that hold together are equal.
-same-ltb : (a b c d : ℕ) → (a < b → c < d) → (c < d → a < b) → ltb a b ≡ ltb c d
+pub same-ltb : (a b c d : ℕ) → (a < b → c < d) → (c < d → a < b) → ltb a b ≡ ltb c d
 same-ltb a b c d to back = go (ltb c d) refl
   where
     go : (t : Bool) → ltb c d ≡ t → ltb a b ≡ t
@@ -43,7 +43,7 @@ same-ltb a b c d to back = go (ltb c d) refl
         go′ false h = refl
 
 -- Two numbers put together reach 2 ^ k where one of them does.
-or-reaches : (k t a b : ℕ) → suc t ≡ 2 ^ k → ltb t (bitOr a b) ≡ (ltb t a || ltb t b)
+pub or-reaches : (k t a b : ℕ) → suc t ≡ 2 ^ k → ltb t (bitOr a b) ≡ (ltb t a || ltb t b)
 or-reaches k t a b e = go (ltb t a) (ltb t b) refl refl
   where
     left : a ≤ bitOr a b

@@ -4,11 +4,12 @@ use mathlib.Core.Path.{_≡_, refl, sym, ap, _∙_}
 use mathlib.Core.List.{List, [], _∷_, _++_}
 use native.Mathlib.Omega.{arith}
 use lib.ListN.{length, getD, take, drop, set}
-use lib.Seq.{length-take-le}
+use lib.Seq.{length-take-le, getD-set-other}
 use Rattle.seq.proofs.Loops.{filled, filled-more}
 use Rattle.seq.proofs.Put.{put}
 use Rattle.line.specs.declared.Cell.{Cell}
 use Rattle.line.specs.Cells.{unruled, stored, cellsIn}
+use Rattle.line.specs.Straight.{cellFrom, putCell}
 
 -- two bytes a cell
 pub twice-suc : (k : ℕ) → 2 * suc k ≡ suc (suc (2 * k))
@@ -16,6 +17,24 @@ twice-suc k = omega arith
 
 twice-next : (k : ℕ) → 2 * suc k + 1 ≡ suc (suc (2 * k + 1))
 twice-next k = omega arith
+
+-- a byte put in its own place changes nothing
+pub set-same : (i : ℕ) (bs : List ℕ) → set bs i (getD bs i 0) ≡ bs
+set-same i [] = refl
+set-same zero (b ∷ bs) = refl
+set-same (suc i) (b ∷ bs) = ap (λ (l : List ℕ). b ∷ l) (set-same i bs)
+
+-- A cell put in its own place; and so with another code, or another mark, alone.
+module _ (at : ℕ) (bs : List ℕ) where
+  pub put-mark : (m : ℕ) → putCell at (record { code = getD bs at 0; mark = m }) bs ≡ set bs (at + 1) m
+  put-mark m = ap (λ (l : List ℕ). set l (at + 1) m) (set-same at bs)
+
+  pub put-same : putCell at (cellFrom at bs) bs ≡ bs
+  put-same = put-mark (getD bs (at + 1) 0) ∙ set-same (at + 1) bs
+
+  pub put-code : (v : ℕ) → putCell at (record { code = v; mark = getD bs (at + 1) 0 }) bs ≡ set bs at v
+  put-code v =
+      ap (set (set bs at v) (at + 1)) (sym (getD-set-other bs at (at + 1) v 0 (λ e. omega (arith, e)))) ∙ set-same (at + 1) (set bs at v)
 
 -- Cells as bytes.
 pub length-stored : (cs : List Cell) → length (stored cs) ≡ 2 * length cs

@@ -1,5 +1,6 @@
 // Document 01, "Writing a line"; T-03's cells.
 pub mod cells;
+mod first;
 pub mod marks;
 mod merge;
 pub mod tables;
@@ -7,12 +8,15 @@ pub mod translate;
 
 use numbers::Stores;
 ghost use mathlib.Core.Path.{_≡_};
+ghost use mathlib.Core.Bool.{_&&_};
 ghost use mathlib.Core.List.{List, _++_};
 ghost use Prim.Native.Nat.{ℕ, _+_, _≤_};
 ghost use lib.ListN.{length};
-ghost use Rattle.numbers.specs.Sizes.{lineWidth, pageLines, pageSize, slotSize, tableSize};
-ghost use Rattle.line.specs.Line.{serving, unprintableAt, told, lineCodes, lineAt, pageWritten};
+ghost use Rattle.numbers.specs.Sizes.{lineWidth, lineBytes, pageLines, pageSize, slotSize, tableSize};
+ghost use Rattle.line.specs.Cells.{stored, cellsIn};
+ghost use Rattle.line.specs.Line.{serving, unprintableAt, told, lineCodes, anyCollides, cellsAfter, lineAt, pageWritten};
 ghost use Rattle.line.specs.Line.{lineCauses, orUnmatched, causeByte};
+ghost use Rattle.line.specs.Straight.{foundOf};
 
 // A stored cell: its code, and its rule mark, 0 or 1.
 pub struct Cell {
@@ -75,23 +79,32 @@ impl Causes {
     };
 }
 
-// The codes of a whole line: the record's, and the stand-in after them. Tells the unprintable positions of the record.
-fn make_line(codes: &mut [u8], sent: &[u8], pitches: [u8; 4], table: &[u8]) -> Unprintables
-    requires { ⌜ length (now codes) ≡ lineWidth ⌝ }
-    requires { ⌜ length (now sent) ≤ lineWidth ⌝ }
-    requires { ⌜ length (now table) ≡ slotSize ⌝ }
-    ensures codes { λ _. ⌜ now (codes .exit) ≡ lineCodes pitches (now (table .entry)) (now (sent .entry)) ⌝ }
-    ensures found { λ r. ⌜ r ≡ told (unprintableAt pitches (now (table .entry)) (now (sent .entry))) ⌝ }
-{
-    let n = sent.len();
-    seq::fill(codes, translate::stand_in(pitches, table));
-    if translate::codes(&mut codes[0..n], sent, pitches, table) {
-        return translate::mend(&mut codes[0..n], pitches, table);
-    }
-    Unprintables::NONE
+// What a text on a line is found to have: unprintable positions, and a collision.
+pub struct Found {
+    pub unprintables: Unprintables,
+    pub collision: bool,
 }
 
-// Writes the record on a line of the page, counted from 1; `later`, if that was written before. The line's codes are made aside.
+// Writes the record on the cells of a line: a first write sets them, a later one merges.
+fn put_line(cells: &mut [u8], later: bool, sent: &[u8], pitches: [u8; 4], table: &[u8]) -> Found
+    requires { ⌜ length (now cells) ≡ lineBytes ⌝ }
+    requires { ⌜ length (now sent) ≤ lineWidth ⌝ }
+    requires { ⌜ length (now table) ≡ slotSize ⌝ }
+    ensures cells { λ _. ⌜ now (cells .exit)
+        ≡ stored (cellsAfter later (cellsIn (now (cells .entry))) (lineCodes pitches (now (table .entry)) (now (sent .entry)))) ⌝ }
+    ensures found { λ r. ⌜ (let t = now (table .entry) in let s = now (sent .entry) in
+        r ≡ foundOf (unprintableAt pitches t s) (later && anyCollides (cellsIn (now (cells .entry))) (lineCodes pitches t s))) ⌝ }
+{
+    if later {
+        return merge::merge_line(cells, sent, pitches, table);
+    }
+    Found {
+        unprintables: first::set_line(cells, sent, pitches, table),
+        collision: false,
+    }
+}
+
+// Writes the record on a line of the page, counted from 1; `later`, if that was written before.
 pub fn write_line(
     page: &mut [u8],
     line: u8,
@@ -115,14 +128,13 @@ pub fn write_line(
     let end = at + Stores::LINE_BYTES;
     let table = tables::serving(slots, tables);
     let unloaded = !tables::is_loaded(slots);
-    let mut codes = [0u8; Stores::LINE_CELLS];
-    let unprintables = make_line(&mut codes, sent, pitches, table);
-    let collision = merge::put(&mut page[at..end], later, &codes);
+    let found = put_line(&mut page[at..end], later, sent, pitches, table);
+    let unprintables = found.unprintables;
     Causes {
         unprintables: unprintables,
         unloaded: unloaded,
         unmatched: false,
-        collision: collision,
+        collision: found.collision,
     }
 }
 

@@ -1,13 +1,16 @@
-// Document 01, "Writing a line": a later write on a line merges its codes with the old cells.
-use crate::Cell;
-use crate::cells;
+// Document 01, "Writing a line": a later write on a line merges with the old cells, cell by cell, straight on the line (T-06).
+use crate::Found;
+use crate::Unprintables;
+use crate::translate;
+use numbers::Stores;
 ghost use mathlib.Core.Path.{_≡_};
-ghost use mathlib.Core.Bool.{_&&_};
-ghost use Prim.Native.Nat.{_*_};
-ghost use lib.ListN.{length};
-ghost use Rattle.numbers.specs.Sizes.{cellBytes};
+ghost use Prim.Native.Nat.{_+_, _*_, _≤_, _<_};
+ghost use lib.ListN.{length, replicate};
+ghost use Rattle.numbers.specs.Sizes.{lineWidth, lineBytes, cellBytes, slotSize};
 ghost use Rattle.line.specs.Cells.{cellsIn, stored};
-ghost use Rattle.line.specs.Line.{isBlank, isUnderscore, isCharacter, mergeCell, collides, mergeLine, anyCollides, cellsAfter};
+ghost use Rattle.line.specs.Line.{standIn, translated, unprintableAt, told, lineCodes};
+ghost use Rattle.line.specs.Line.{isBlank, isUnderscore, mergeCell, collides, mergeLine, anyCollides};
+ghost use Rattle.line.specs.Straight.{cellFrom, putCell, foundOf};
 
 fn is_blank(code: u8) -> bool
     ensures { λ r. ⌜ r ≡ isBlank code ⌝ }
@@ -21,65 +24,129 @@ fn is_underscore(code: u8) -> bool
     code % 64 == 0x2D
 }
 
-fn is_character(code: u8) -> bool
-    ensures { λ r. ⌜ r ≡ isCharacter code ⌝ }
+// The merge rules on the cell at `at`. The old code is read before anything is set, and only what changes is set. Says whether the two collide.
+fn merge_at(cells: &mut [u8], at: usize, new: u8) -> bool
+    requires { ⌜ at + 1 < length (now cells) ⌝ }
+    ensures cells { λ _. ⌜ now (cells .exit) ≡ putCell at (mergeCell (cellFrom at (now (cells .entry))) new) (now (cells .entry)) ⌝ }
+    ensures clash { λ r. ⌜ r ≡ collides (cellFrom at (now (cells .entry))) new ⌝ }
 {
-    !is_blank(code) & !is_underscore(code)
+    let old = cells[at];
+    if is_blank(new) {
+        return false;
+    }
+    if is_blank(old) {
+        cells[at] = new;
+        return false;
+    }
+    if is_underscore(new) {
+        if is_underscore(old) {
+            return false;
+        }
+        cells[at + 1] = 1;
+        return false;
+    }
+    if is_underscore(old) {
+        cells[at] = new;
+        cells[at + 1] = 1;
+        return false;
+    }
+    old != new
 }
 
-// The merge rules, with no branch.
-fn merge_cell(old: Cell, new: u8) -> Cell
-    ensures { λ r. ⌜ r ≡ mergeCell old new ⌝ }
+// The unprintable positions of a record.
+fn tell(sent: &[u8], pitches: [u8; 4], table: &[u8]) -> Unprintables
+    requires { ⌜ length (now sent) ≤ lineWidth ⌝ }
+    requires { ⌜ length (now table) ≡ slotSize ⌝ }
+    ensures { λ r. ⌜ r ≡ told (unprintableAt pitches (now (table .entry)) (now (sent .entry))) ⌝ }
 {
-    let code = old.code;
-    let takes_new = !is_blank(new) & (is_blank(code) | (is_underscore(code) & !is_underscore(new)));
-    let rules = (is_underscore(code) & is_character(new))
-        | (is_character(code) & is_underscore(new));
-    Cell {
-        code: seq::pick(takes_new, new, code),
-        mark: seq::pick(rules, 1, old.mark),
+    let mut first = 0u16;
+    let mut count = 0u16;
+    let mut i = 0;
+    while i < sent.len() {
+        let bad = translate::is_bad(pitches, translate::entry(table, sent[i]));
+        first = translate::first_of(first, count, bad, i);
+        count += seq::flag(bad, 1) as u16;
+        i += 1;
+    }
+    Unprintables {
+        first: first,
+        count: count,
     }
 }
 
-fn collide(old: Cell, new: u8) -> bool
-    ensures { λ r. ⌜ r ≡ collides old new ⌝ }
+// Merges the record's codes, each with the stand-in in its place where it is unprintable.
+fn merge_record(cells: &mut [u8], sent: &[u8], pitches: [u8; 4], other: u8, table: &[u8]) -> Found
+    requires { ⌜ length (now cells) ≡ cellBytes * length (now sent) ⌝ }
+    requires { ⌜ length (now sent) ≤ lineWidth ⌝ }
+    requires { ⌜ length (now table) ≡ slotSize ⌝ }
+    requires { ⌜ other ≡ standIn pitches (now table) ⌝ }
+    ensures cells { λ _. ⌜ now (cells .exit)
+        ≡ stored (mergeLine (cellsIn (now (cells .entry))) (translated pitches (now (table .entry)) (now (sent .entry)))) ⌝ }
+    ensures found { λ r. ⌜ (let t = now (table .entry) in let s = now (sent .entry) in
+        r ≡ foundOf (unprintableAt pitches t s) (anyCollides (cellsIn (now (cells .entry))) (translated pitches t s))) ⌝ }
 {
-    is_character(old.code) & is_character(new) & (old.code != new)
-}
-
-// Merges codes into the cells, and says whether anything collides.
-fn merge(cells: &mut [u8], new: &[u8]) -> bool
-    requires { ⌜ length (now cells) ≡ cellBytes * length (now new) ⌝ }
-    ensures cells { λ _. ⌜ now (cells .exit) ≡ stored (mergeLine (cellsIn (now (cells .entry))) (now (new .entry))) ⌝ }
-    ensures clash { λ r. ⌜ r ≡ anyCollides (cellsIn (now (cells .entry))) (now (new .entry)) ⌝ }
-{
+    let mut bad = false;
     let mut clash = false;
     let mut i = 0;
-    while i < new.len() {
-        let at = 2 * i;
-        let old = Cell {
-            code: cells[at],
-            mark: cells[at + 1],
+    while i < sent.len() {
+        let code = translate::entry(table, sent[i]);
+        let stands = translate::is_bad(pitches, code);
+        bad = bad | stands;
+        clash = clash | merge_at(cells, 2 * i, seq::pick(stands, other, code));
+        i += 1;
+    }
+    if bad {
+        return Found {
+            unprintables: tell(sent, pitches, table),
+            collision: clash,
         };
-        let n = new[i];
-        let merged = merge_cell(old, n);
-        clash = clash | collide(old, n);
-        cells[at] = merged.code;
-        cells[at + 1] = merged.mark;
+    }
+    Found {
+        unprintables: Unprintables::NONE,
+        collision: clash,
+    }
+}
+
+// Merges one code into so many cells. A blank changes none.
+fn merge_fill(cells: &mut [u8], count: usize, code: u8) -> bool
+    requires { ⌜ length (now cells) ≡ cellBytes * count ⌝ }
+    ensures cells { λ _. ⌜ now (cells .exit) ≡ stored (mergeLine (cellsIn (now (cells .entry))) (replicate count code)) ⌝ }
+    ensures clash { λ r. ⌜ r ≡ anyCollides (cellsIn (now (cells .entry))) (replicate count code) ⌝ }
+{
+    let mut clash = false;
+    if is_blank(code) {
+        return clash;
+    }
+    let mut i = 0;
+    while i < count {
+        clash = clash | merge_at(cells, 2 * i, code);
         i += 1;
     }
     clash
 }
 
-// Writes codes on the cells, and says whether anything collides.
-pub fn put(cells: &mut [u8], later: bool, new: &[u8]) -> bool
-    requires { ⌜ length (now cells) ≡ cellBytes * length (now new) ⌝ }
-    ensures cells { λ _. ⌜ now (cells .exit) ≡ stored (cellsAfter later (cellsIn (now (cells .entry))) (now (new .entry))) ⌝ }
-    ensures clash { λ r. ⌜ r ≡ (later && anyCollides (cellsIn (now (cells .entry))) (now (new .entry))) ⌝ }
+// The record's codes are merged, and the stand-in after them.
+pub fn merge_line(cells: &mut [u8], sent: &[u8], pitches: [u8; 4], table: &[u8]) -> Found
+    requires { ⌜ length (now cells) ≡ lineBytes ⌝ }
+    requires { ⌜ length (now sent) ≤ lineWidth ⌝ }
+    requires { ⌜ length (now table) ≡ slotSize ⌝ }
+    ensures cells { λ _. ⌜ now (cells .exit)
+        ≡ stored (mergeLine (cellsIn (now (cells .entry))) (lineCodes pitches (now (table .entry)) (now (sent .entry)))) ⌝ }
+    ensures found { λ r. ⌜ (let t = now (table .entry) in let s = now (sent .entry) in
+        r ≡ foundOf (unprintableAt pitches t s) (anyCollides (cellsIn (now (cells .entry))) (lineCodes pitches t s))) ⌝ }
 {
-    if later {
-        return merge(cells, new);
+    let n = sent.len();
+    let end = 2 * n;
+    let other = translate::stand_in(pitches, table);
+    let found = merge_record(&mut cells[0..end], sent, pitches, other, table);
+    let clash = merge_fill(
+        &mut cells[end..Stores::LINE_BYTES],
+        Stores::LINE_CELLS - n,
+        other,
+    );
+    let unprintables = found.unprintables;
+    Found {
+        unprintables: unprintables,
+        collision: found.collision | clash,
     }
-    cells::set(cells, new);
-    false
 }

@@ -7,8 +7,8 @@ use native.Mathlib.Nat.{add-zero, le-of-suc-le-suc, not-suc-le-zero}
 use native.Mathlib.Omega.{arith}
 use lib.ListN.{length, getD, take, length-append}
 use lib.Seq.{take-all}
-use lib.Dec.{leb}
-use borrow.Author.Tests.{le-leb}
+use lib.Dec.{eqb, leb}
+use borrow.Author.Tests.{le-leb, ne-eqb}
 use Rattle.seq.specs.Words.{any, all, placesFrom, bit}
 use native.Mathlib.Numerals.{add-one}
 use Rattle.seq.proofs.Laws.{and-both, or-left, or-right, cond-has}
@@ -41,6 +41,19 @@ module _ {A : Type 0} (f : A → Bool) where
   count-more d n k xs h =
       ap (λ (m : ℕ). length (placesFrom f n (take k xs)) + m) (sym (length-cond (f (getD xs k d)) (n + k)))
       ∙ sym (length-append (placesFrom f n (take k xs)) _) ∙ ap length (places-more d n k xs h)
+
+  -- the first of them: the next element's place, where it passes and none came before it
+  first-after : (t : Bool) (m : ℕ) (ps : List ℕ) → cond (t && eqb (length ps) 0) m (getD ps 0 0) ≡ getD (ps ++ cond t (m ∷ []) []) 0 0
+  first-after true m [] = refl
+  first-after false m [] = refl
+  first-after true m (p ∷ ps) = rw (ne-eqb (suc (length ps)) 0 (λ z. omega (arith, z))) refl
+  first-after false m (p ∷ ps) = refl
+
+  pub first-more : (d : A) (n k : ℕ) (xs : List A) → k < length xs
+      → cond (f (getD xs k d) && eqb (length (placesFrom f n (take k xs))) 0) (n + k) (getD (placesFrom f n (take k xs)) 0 0)
+      ≡ getD (placesFrom f n (take (k + 1) xs)) 0 0
+  first-more d n k xs h =
+      first-after (f (getD xs k d)) (n + k) (placesFrom f n (take k xs)) ∙ ap (λ (l : List ℕ). getD l 0 0) (places-more d n k xs h)
 
   pub places-all : (n k : ℕ) (xs : List A) → length xs ≤ k → placesFrom f n (take k xs) ≡ placesFrom f n xs
   places-all n k xs h = ap (placesFrom f n) (take-all k xs h)
