@@ -4,14 +4,13 @@ use mathlib.Core.Bool.{cond}
 use mathlib.Core.List.{List, map}
 use Prim.Native.Nat.{ℕ, _/_, _≤_, _<_, _-_}
 use native.Mathlib.Omega.{arith}
-use lib.ListN.{length, getD, take, length-set, length-map}
+use lib.ListN.{length, length-map}
 use borrow.Author.Needs.{needs}
-use Rattle.seq.specs.Words.{placesFrom}
 use Rattle.seq.proofs.Loops.{filled, filled-none, filled-all, getD-map}
-use Rattle.seq.proofs.Places.{count-more, first-more, places-all}
 use Rattle.line.specs.Line.{unprintable}
 use Rattle.line.specs.Straight.{plain}
 use Rattle.line.proofs.PlainLaws.{length-plain, plain-old, plain-more}
+use Rattle.line.proofs.UnprintableLaws.{Telling, telling-none, telling-more, telling-all}
 use Rattle.line.proofs.first.mend.Statement.{statement}
 use Rattle.line.proofs.first.mend.Tie as tie
 
@@ -19,15 +18,10 @@ use Rattle.line.proofs.first.mend.Tie as tie
 abbrev after : List ℕ → ℕ → ℕ → ℕ
 after pitches other x = cond (unprintable pitches x) other x
 
--- the places of the unprintable ones of the first i codes
-abbrev places : List ℕ → ℕ → List ℕ → List ℕ
-places pitches i cs = placesFrom (unprintable pitches) 1 (take i cs)
-
--- the first i of the codes cs are mended, and their places told
+-- the first i of the codes cs are mended, and their unprintable positions told
 abbrev Mended : List ℕ → ℕ → List ℕ → ℕ → ℕ → ℕ → List ℕ → Type 0
 Mended pitches other cells first count i cs =
-    (cells ≡ plain (filled i (map (after pitches other) cs) cs))
-    × ((first ≡ getD (places pitches i cs) 0 0) × (count ≡ length (places pitches i cs)))
+    (cells ≡ plain (filled i (map (after pitches other) cs) cs)) × Telling (unprintable pitches) cs i first count
 
 abbrev Inv-loop : tie.InvT-loop
 Inv-loop cells₀ pitches other first₀ count₀ i₀ cells first count i =
@@ -39,7 +33,7 @@ abbrev μ-loop : tie.MeasureT-loop
 μ-loop cells₀ pitches other first₀ count₀ i₀ cells first count i = length cells₀ / 2 - i
 
 loop-holds : tie.Need-loop-holds Inv-loop μ-loop
-loop-holds c = (search needs, (refl, (search needs, λ cs p. (p ∙ ap plain (sym (filled-none _ cs)), (refl, refl)))))
+loop-holds c = (search needs, (refl, (search needs, λ cs p. (p ∙ ap plain (sym (filled-none _ cs)), telling-none _ _))))
 
 loop-again : tie.Need-loop-again Inv-loop μ-loop
 loop-again c = (
@@ -60,10 +54,7 @@ loop-again c = (
           let code = ap f read ∙ sym (getD-map f 0 0 (l .i) cs here) in
           let bad = m .mend-at .ensures .1 ∙ ap (unprintable ps) read in (
             rw (m .mend-at .ensures .0) (plain-more (l .i) _ (map f cs) cs (l .cells) (e .0) (rw length-map here) code),
-            (
-              c .before .first-of .ensures ∙ rw (bad, e .1 .0, e .1 .1) (first-more (unprintable ps) 0 1 (l .i) cs here),
-              rw (c .flag .ensures .0, bad, e .1 .1) (count-more (unprintable ps) 0 1 (l .i) cs here),
-            ),
+            telling-more _ _ here (e .1) bad (c .before .first-of .ensures) (c .flag .ensures .0),
           ),
     ),
   ),
@@ -75,10 +66,7 @@ returns c =
     let a = c .before .before .before .args in
     let end : (cs : List ℕ) → a .cells .now ≡ plain cs → length cs ≤ l .i = λ cs p. omega (arith, ap length p, length-plain cs) in (
       λ cs p. l .inv .1 .1 .1 cs p .0 ∙ ap plain (filled-all (l .i) _ cs (rw length-map refl) (end cs p)),
-      λ cs p.
-          let all = places-all (unprintable (a .pitches)) 1 (l .i) cs (end cs p) in
-          let e = l .inv .1 .1 .1 cs p .1 in
-          λ j. record { first = (e .0 ∙ ap (λ (ns : List ℕ). getD ns 0 0) all) j; count = (e .1 ∙ ap length all) j },
+      λ cs p. telling-all _ _ (end cs p) (l .inv .1 .1 .1 cs p .1),
     )
 
 pub mend-spec : {M : Type 1} → statement M

@@ -10,12 +10,12 @@ use lib.Seq.{take-at, drop-at, length-take-le}
 use lib.Dec.{eqb, ltb}
 use borrow.Author.Needs.{needs}
 use Rattle.seq.specs.Words.{any, all}
-use Rattle.seq.proofs.Laws.{or-left, or-right, four, drop-replicate}
+use Rattle.seq.proofs.Laws.{or-left, or-right, drop-replicate}
 use Rattle.numbers.specs.Sizes.{lineWidth}
 use Rattle.line.specs.Line.{unprintable, standIn, translated, told, lineCodes}
 use Rattle.line.specs.Codes.{codes, unprintableCodes}
 use Rattle.line.specs.Straight.{plain}
-use Rattle.line.proofs.CellLaws.{any-fitted, unprintable-codes, replaced-codes, printable-none, printable-codes}
+use Rattle.line.proofs.CellLaws.{fitted-any, unprintable-codes, replaced-codes, printable-none, printable-codes}
 use Rattle.line.proofs.PlainLaws.{plain-lent, plain-put}
 use Rattle.line.proofs.first.set_line.Statement.{statement}
 use Rattle.line.proofs.first.set_line.Tie as tie
@@ -25,13 +25,6 @@ codes-bytes : (t r : List ℕ) → ((k : ℕ) → getD t k 0 ≤ 255) → (k : �
 codes-bytes t [] h k = omega arith
 codes-bytes t (b ∷ r) h zero = h b
 codes-bytes t (b ∷ r) h (suc k) = codes-bytes t r h k
-
--- with all modules fitted, FF alone is unprintable
-fitted-any : (ps l : List ℕ) → length ps ≡ 4 → ((k : ℕ) → getD l k 0 ≤ 255) → all (λ p. not (eqb p 0)) ps ≡ true
-    → any (unprintable ps) l ≡ any (ltb 254) l
-fitted-any ps l e h f =
-    let s = four ps e in
-    ap (λ (qs : List ℕ). any (unprintable qs) l) (sym s) ∙ any-fitted _ _ _ _ l h (ap (all (λ p. not (eqb p 0))) s ∙ f)
 
 pitches : (c : tie.Start) → length (c .args .pitches) ≡ 4
 pitches c = search needs
