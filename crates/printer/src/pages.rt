@@ -73,10 +73,7 @@ impl Printer {
         self.state = state;
         if sheet.due {
             let fresh = self.reset(legends, tables);
-            return Step {
-                printer: fresh,
-                answer: Answer::only(Refusal::Accepted, 0),
-            };
+            self = fresh;
         }
         Step {
             printer: self,
