@@ -113,10 +113,10 @@ fn merge_fill(cells: &mut [u8], count: usize, code: u8) -> bool
     ensures cells { λ _. ⌜ now (cells .exit) ≡ stored (mergeLine (cellsIn (now (cells .entry))) (replicate count code)) ⌝ }
     ensures clash { λ r. ⌜ r ≡ anyCollides (cellsIn (now (cells .entry))) (replicate count code) ⌝ }
 {
-    let mut clash = false;
     if is_blank(code) {
-        return clash;
+        return false;
     }
+    let mut clash = false;
     let mut i = 0;
     while i < count {
         clash = clash | merge_at(cells, 2 * i, code);
