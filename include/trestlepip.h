@@ -9,7 +9,7 @@
  * reads the page counters; the feet of paper; and trestlepip_printable_lines, which says how many lines a copy has. Elsewhere stand:
  *   - docs/NUMBERS.md, the programmer's card: what a program does about each number, cause and check;
  *   - docs/RECORDS.md: the record of each load byte by byte, with an example;
- *   - docs/STATE.md: the state byte by byte, with the range of each field; the page's bytes;
+ *   - docs/STATE.md: the state byte by byte, with the range of each field; the page's bytes; the stack that each call needs;
  *   - include/trestlepip_text.h: a short text for each number, cause and data check, for a program's log.
  *
  * What the library promises: every call, with any value of any number and any length and contents of any buffer, returns an answer; a refused
