@@ -63,17 +63,6 @@ module _ {A : Type 0} (f : A → Bool) where
   places-none n [] e = refl
   places-none n (x ∷ xs) e = rw (or-left (f x) (any f xs) e) (places-none (suc n) xs (or-right (f x) (any f xs) e))
 
-  -- the place of the first that passes
-  pub places-first : (d : A) (n k : ℕ) (xs : List A) → k < length xs → any f (take k xs) ≡ false → f (getD xs k d) ≡ true
-      → getD (placesFrom f n xs) 0 0 ≡ n + k
-  places-first d n k [] h e t = absurd (not-suc-le-zero h)
-  places-first d n zero (x ∷ xs) h e t = rw (t, add-zero n)
-  places-first d n (suc k) (x ∷ xs) h e t =
-      let none = or-left (f x) (any f (take k xs)) e in
-      let next = places-first d (suc n) k xs (le-of-suc-le-suc h) (or-right (f x) (any f (take k xs)) e) t in
-      let at : suc n + k ≡ n + suc k = omega arith in
-      rw none (next ∙ at)
-
   few-step : (t : Bool) (n m : ℕ) (xs : List ℕ) → length xs ≤ m → length (cond t (n ∷ xs) xs) ≤ suc m
   few-step true n m xs h = omega (arith, h)
   few-step false n m xs h = omega (arith, h)
