@@ -1,4 +1,6 @@
 // Document 01, "Calls", "Commands", "Reset and sense": what a printer holds, and what it is told to do.
+#![tactic(auto)]
+
 ghost use Rattle.std.specs.Prelude.{◌≡◌};
 ghost use Rattle.calls.specs.Core.{started};
 
@@ -9,7 +11,7 @@ use line::Slots;
 use movement::Motion;
 
 // What Start fixes: the form length in 24ths of an inch, the pitch of each module, 0 if it is not fitted, and whether immediate skips go the old way (T-05).
-#[derive(Drop)]
+#[derive(Clone, Copy)]
 pub struct Fixed {
     pub length: u16,
     pub pitches: [u8; 4],
@@ -25,7 +27,7 @@ impl Fixed {
 
 // The form and the page in work: the current line, whether it is written on, whether a completed page waits, and whether its
 // Release is to reset. Lines are only left forwards, so whether another line is written is never asked.
-#[derive(Drop)]
+#[derive(Clone, Copy)]
 pub struct Sheet {
     pub line: u8,
     pub written: bool,
@@ -34,7 +36,7 @@ pub struct Sheet {
 }
 
 // The printer's state, except its sense.
-#[derive(Drop)]
+#[derive(Clone, Copy)]
 pub struct State {
     pub fixed: Fixed,
     pub blocked: bool,
@@ -46,7 +48,7 @@ pub struct State {
 }
 
 // A command byte, decoded. Write is write and space or skip, Move the immediate form of both.
-#[derive(Drop)]
+#[derive(Clone, Copy)]
 pub enum Command {
     Write(Motion),
     Move(Motion),
@@ -55,7 +57,7 @@ pub enum Command {
     Unlisted,
 }
 
-#[derive(Drop)]
+#[derive(Clone, Copy)]
 pub enum Control {
     NoOp,
     SenseIo,
@@ -66,7 +68,7 @@ pub enum Control {
     Select(u8),
 }
 
-#[derive(Drop)]
+#[derive(Clone, Copy)]
 pub enum Load {
     Fcb,
     TranslateTable,

@@ -1,4 +1,6 @@
 // Document 01, "Copies and legends": the loads of translate table, overlay sequence and copy number, and the copies of a page.
+#![tactic(auto)]
+
 ghost use Rattle.std.specs.Prelude.{◌≡◌, ◌+◌, ◌-◌, ◌%◌, ◌<◌, ◌≤◌, not, ◌&&◌, ◌||◌, ltb, length, take, if◌then◌else◌, ◌==◌, nat_eq, nat_lt};
 ghost use Rattle.seq.specs.Words.{any, zero_from};
 ghost use Rattle.numbers.specs.Numbers.{is_sound};
@@ -8,7 +10,7 @@ ghost use Rattle.copies.specs.Copies.{mark_in, number_check, copies_in_range};
 use numbers::{Cause, Checked, Stores};
 
 // A printer's overlay sequence, its bytes with 00 after them and how many they are; and the copy number of copy 1.
-#[derive(Drop)]
+#[derive(Clone, Copy)]
 pub struct Copies {
     pub pairs: [u8; Copies::PAIR_BYTES],
     pub count: u8,

@@ -1,4 +1,6 @@
 // Document 02, T-02, "Page identifiers": the four counters by value, `stations`, which changes them in place, and `lending`, which lends them to it.
+#![tactic(auto)]
+
 ghost use Rattle.std.specs.Prelude.{◌≡◌};
 ghost use Rattle.counters.specs.Counters.{next, between, counted, transferred, fused, stacked, cancelled, restarted, none_between, most_between, counters_ok};
 
@@ -6,7 +8,7 @@ pub mod lending;
 pub mod stations;
 
 // The pages counted at each place of the paper path; after FFFF comes 0000.
-#[derive(Drop)]
+#[derive(Clone, Copy)]
 pub struct Counters {
     pub channel: u16,
     pub transfer: u16,
@@ -15,7 +17,7 @@ pub struct Counters {
 }
 
 // The calls by which the spooler keeps the counters: a report for each station, a cancel, a restart.
-#[derive(Drop)]
+#[derive(Clone, Copy)]
 pub enum Tally {
     Transferred,
     Fused,

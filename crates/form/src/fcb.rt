@@ -21,7 +21,7 @@ const BLOCK: usize = 32;
 
 // What the bytes so far have shown: the upper half of the last one, a bad channel, another upper half, a run that ended within a half inch,
 // the units in all, a channel in an edge half inch, the lines that start in the first half inch, and the printable ones.
-#[derive(Drop)]
+#[derive(Clone, Copy)]
 struct Pass {
     upper: u8,
     channel: bool,

@@ -1,9 +1,11 @@
 // Document 01, "Form and forms control".
+#![tactic(auto)]
+
 pub mod fcb;
 
 // What one pass over an FCB finds: whether a channel or a spacing is bad, the units in all, whether an edge half inch has a channel,
 // the lines that start in the first half inch, and the printable ones.
-#[derive(Drop)]
+#[derive(Clone, Copy)]
 pub struct Layout {
     pub channel: bool,
     pub spacing: bool,
@@ -14,7 +16,7 @@ pub struct Layout {
 }
 
 // Forms control as a printer has it: the FCB's bytes with 00 after them, and how many they are.
-#[derive(Drop)]
+#[derive(Clone, Copy)]
 pub struct Forms {
     pub fcb: [u8; Forms::FCB_BYTES],
     pub count: u8,
@@ -26,7 +28,7 @@ impl Forms {
 }
 
 // What is found of an FCB in its array: whether its count and the 00 after it are in range, and the form that it lays out.
-#[derive(Drop)]
+#[derive(Clone, Copy)]
 pub struct Judged {
     pub range: bool,
     pub layout: Layout,

@@ -1,4 +1,6 @@
 // Document 01, "Copies and legends": legend records, their check, the check of stored legends, and the store of a load.
+#![tactic(auto)]
+
 pub mod compose;
 
 ghost use Rattle.std.specs.Prelude.{◌≡◌, false, ℕ, ◌+◌, ◌≤◌, length, drop};

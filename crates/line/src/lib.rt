@@ -1,4 +1,6 @@
 // Document 01, "Writing a line"; T-03's cells.
+#![tactic(auto)]
+
 pub mod cells;
 mod first;
 pub mod marks;
@@ -16,14 +18,14 @@ ghost use Rattle.line.specs.Straight.{found_of};
 use numbers::Stores;
 
 // A stored cell: its code, and its rule mark, 0 or 1.
-#[derive(Drop)]
+#[derive(Clone, Copy)]
 pub struct Cell {
     pub code: u8,
     pub mark: u8,
 }
 
 // The four table slots: which are loaded, and which is selected. Their bytes are a lent store.
-#[derive(Drop)]
+#[derive(Clone, Copy)]
 pub struct Slots {
     pub loaded: [bool; 4],
     pub selected: u8,
@@ -38,7 +40,7 @@ impl Slots {
 }
 
 // What is told of the unprintable positions of a text: the first of them, from 1, or 0 for none; and how many there are.
-#[derive(Drop)]
+#[derive(Clone, Copy)]
 pub struct Unprintables {
     pub first: u16,
     pub count: u16,
@@ -63,7 +65,7 @@ impl Unprintables {
 }
 
 // The causes of a data check: 80, 20, 10 and 08 of sense byte 1.
-#[derive(Drop)]
+#[derive(Clone, Copy)]
 pub struct Causes {
     pub unprintables: Unprintables,
     pub unloaded: bool,
@@ -81,7 +83,7 @@ impl Causes {
 }
 
 // What a text on a line is found to have: unprintable positions, and a collision.
-#[derive(Drop)]
+#[derive(Clone, Copy)]
 pub struct Found {
     pub unprintables: Unprintables,
     pub collision: bool,

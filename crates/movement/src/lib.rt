@@ -1,18 +1,20 @@
 // Document 01, "Movement": spacing, skipping, and either on a part of an FCB.
+#![tactic(auto)]
+
 ghost use Rattle.std.specs.Prelude.{◌≡◌, cond, ◌&&◌, ◌+◌, ◌-◌, ◌≤◌, ltb, length, take, drop};
 ghost use Rattle.numbers.specs.Sizes.{page_lines};
 ghost use Rattle.form.specs.Form.{channel_at, fcb_size};
 ghost use Rattle.movement.specs.Movement.{OnForm, round, up_to_first, has, spaced, skipped, moved, is_there, still};
 
 // What a command asks of the form: to space so many lines, or to skip to a channel.
-#[derive(Drop)]
+#[derive(Clone, Copy)]
 pub enum Motion {
     Space(u8),
     Skip(u8),
 }
 
 // What a movement does: the lines entered or looked at, the pages completed, the line taken, and what it reports.
-#[derive(Drop)]
+#[derive(Clone, Copy)]
 pub struct Moved {
     pub lines: u8,
     pub pages: u8,

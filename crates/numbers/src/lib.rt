@@ -1,9 +1,11 @@
 // Document 01, "Numbers": the refusals and their causes, the answer and the sense; and the table's row for each refusal.
+#![tactic(auto)]
+
 ghost use Rattle.std.specs.Prelude.{◌≡◌};
 ghost use Rattle.numbers.specs.Numbers.{sense3, sense_after, row_with, row_telling, check_row, causing, sum_caused, cause_of, row_of, is_accepted, only, is_sound};
 
 // The lent stores. Their bytes are the host's; their sizes, and a line's, stand here.
-#[derive(Drop)]
+#[derive(Clone, Copy)]
 pub struct Stores {}
 
 impl Stores {
@@ -25,7 +27,7 @@ impl Stores {
 }
 
 // The rows of the paper's table of numbers, T-02's two, and T-04's. Accepted, row 0, is no refusal.
-#[derive(Drop)]
+#[derive(Clone, Copy)]
 pub enum Refusal {
     Accepted,
     NotListed,
@@ -45,7 +47,7 @@ pub enum Refusal {
 }
 
 // Which cause of its load's order a load check found first.
-#[derive(Drop)]
+#[derive(Clone, Copy)]
 pub enum Cause {
     FcbChannel,
     FcbSpacing,
@@ -60,13 +62,13 @@ pub enum Cause {
 }
 
 // What a load's check of a record finds.
-#[derive(Drop)]
+#[derive(Clone, Copy)]
 pub enum Checked {
     Sound,
     Faulty(Cause),
 }
 
-#[derive(Drop)]
+#[derive(Clone, Copy)]
 pub struct Answer {
     pub refusal: Refusal,
     pub status: u8,
@@ -80,7 +82,7 @@ pub struct Answer {
 }
 
 // The table's last column: the sense is kept or set anew; or there is none, as a refused Start leaves no printer.
-#[derive(Drop)]
+#[derive(Clone, Copy)]
 pub enum SenseStep {
     Keep,
     Anew(Sense),
@@ -88,7 +90,7 @@ pub enum SenseStep {
 }
 
 // A row of the table, with the number by which a packed answer names the cause of a load check, 0 of every other.
-#[derive(Drop)]
+#[derive(Clone, Copy)]
 pub struct Row {
     pub number: u8,
     pub status: u8,
@@ -97,14 +99,14 @@ pub struct Row {
 }
 
 // What a load check shows of its cause: the number by which a packed answer names it, and its sense.
-#[derive(Drop)]
+#[derive(Clone, Copy)]
 pub struct Caused {
     pub number: u8,
     pub sense: Sense,
 }
 
 // The sense bytes that a printer keeps. Byte 3 is computed when Sense asks, and all others are 00.
-#[derive(Drop)]
+#[derive(Clone, Copy)]
 pub struct Sense {
     pub b0: u8,
     pub b1: u8,

@@ -1,4 +1,6 @@
 // Document 02, T-04, "Feet of paper": the manual's sum for a transmission, as a double.
+#![tactic(auto)]
+
 ghost use Rattle.std.specs.Prelude.{◌≡◌, false, ◌<◌, ◌^◌};
 ghost use Rattle.paper.specs.Feet.{foot_units, sent, bad_paper, product, nearest_to, paper_used};
 
@@ -6,7 +8,7 @@ use copies::Copies;
 use numbers::Refusal;
 
 // What is answered: whether the numbers are refused, and the feet.
-#[derive(Drop)]
+#[derive(Clone, Copy)]
 pub struct Paper {
     pub refusal: Refusal,
     pub feet: f64,

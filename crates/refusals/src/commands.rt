@@ -64,7 +64,7 @@ pub fn decode(byte: u8) -> Command
 }
 
 // What the refusals ask of a command: whether it is quiet, replies, is a load, is not listed.
-#[derive(Drop)]
+#[derive(Clone, Copy)]
 pub(crate) struct Kind {
     pub quiet: bool,
     pub replies: bool,

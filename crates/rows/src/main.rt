@@ -1,4 +1,6 @@
 // Obeys a script, a line a call of the library, and prints each line with what it gave. The script says at its top how it is written.
+#![tactic(auto)]
+
 mod bench;
 
 use libc::STDIN_FILENO;

@@ -1,5 +1,7 @@
 // A call on the state's bytes: judged, refused or done by a method of the printer that the bytes stand for, and what that can have changed put back. The
 // printer is decoded and put back in the arm of each command, and nowhere before: so the compiler leaves out what the command does not use.
+#![tactic(auto)]
+
 ghost use Rattle.std.specs.Prelude.{◌≡◌, true, List, [], ◌∷◌, ℕ, length};
 ghost use Rattle.paper.specs.Feet.{sent};
 ghost use Rattle.calls.specs.Core.{Stores, stores_of};

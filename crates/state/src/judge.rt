@@ -13,7 +13,7 @@ use form::{Judged, Layout};
 use printer::Printer;
 
 // What judging finds: whether a printer can have what is lent, and the form laid out if so.
-#[derive(Drop)]
+#[derive(Clone, Copy)]
 pub struct Found {
     pub sound: bool,
     pub form: Layout,

@@ -1,5 +1,7 @@
 // Prints the tables that documents, header and C programs repeat, as the proved code has them: sizes, the state's places, the rows of the table of
 // numbers, the commands. tools/tables holds those files to what is printed here.
+#![tactic(auto)]
+
 mod commands;
 mod rows;
 mod sizes;

@@ -1,5 +1,7 @@
 // The printer for a C host: the calls on numbers and lent bytes. None asks anything of its caller, and the contract of each is one equation that
 // fixes the packed answer and every lent byte, or the lent double.
+#![tactic(auto)]
+
 ghost use Rattle.std.specs.Prelude.{◌≡◌, [], ◌∷◌};
 ghost use Rattle.counters.specs.declared.Tally.TheVariants.{Transferred, Fused, Stacked, Cancel, Restart};
 ghost use Rattle.paper.specs.Feet.{sent};
