@@ -3,33 +3,19 @@ use Rattle.std.proofs.Common.{◌≡◌, Bool, true, false, ◌&&◌, sym, refl,
 use Rattle.copies.specs.Copies.{whole_pairs}
 use Rattle.copies.proofs.CopiesLaws.{pairs-fit, pairs-even}
 use Rattle.copies.proofs.JudgeLaws.{ok-without-pairs, ok-with-pairs}
-use Rattle.copies.proofs.copies_ok.Statement.{statement}
-use Rattle.copies.proofs.copies_ok.Tie as tie
+use Rattle.copies.proofs.copies_ok.Goals as goal
 
 -- where a test holds the rest decides, and where not nothing
 by-test : {x k : Bool} (t : Bool) → (t ≡ false → false ≡ k) → (t ≡ true → x ≡ k) → (t && x) ≡ k
 by-test false h g = h refl
 by-test true h g = g refl
 
-returns : tie.Need-returns
-returns c =
-    let l = c.before in
-    let w = l.before in
-    let a = w.before.before.before.args in
-    let pairs = rw w.before.wide.ensures.0 at w.whole-pairs.ensures in
+pub returns : goal.returns
+returns c = let a = c.args in
+    let pairs = rw c.wide.ensures.0 at c.whole_pairs-whole.ensures in
     rw pairs
     (by-test (whole_pairs a.count)
     (λ e. sym (ok-without-pairs a.pairs.now a.count a.reference (search rules) e))
     (λ e.
-    rw (l.any-loose.ensures (pairs-fit a.count e) (pairs-even a.count e), c.total-copies.ensures)
+    rw (c.any_loose-loose.ensures (pairs-fit a.count e) (pairs-even a.count e), c.total_copies-copies.ensures)
     (sym (ok-with-pairs a.pairs.now a.count a.reference (search rules) e))))
-
-pub copies-ok-spec : {M : Type 1} → statement M
-copies-ok-spec =
-    tie.close
-    (tie.spec
-    (λ c κs. search rules)
-    (λ c κs. search rules)
-    (λ c κs. search rules)
-    (λ c κs. search rules)
-    returns)
