@@ -16,7 +16,7 @@ loop-i-preserved c = let l = c.loop-i in
     (search rules, (search rules, λ few. l.invariant.1.1 few ∙ rw (e, now few) (sym (or_assoc l.found _ _))))
 
 pub returns : goal.returns
-returns c = let l = c.loop-i in
+returns c few even = let l = c.loop-i in
     let a = c.args in
     let none = drop_of_length-le a.pairs.now {i = l.i} (search rules) in
     sym (l.invariant.1.1 few ∙ rw (none, loose_none) (or-false l.found)) ∙ loose-is a.count a.pairs.now even (search rules)
