@@ -12,5 +12,5 @@ use Rattle.legends.proofs.compose.compose_in.Goals as goal
 pub returns : goal.returns
 returns c = let out = c.paint_all.new.out in
     let a = c.args in
-    let size = c.paint_all.auto.0 ∙ ap length c.move_all.ensures in
+    let size = c.paint_all.auto.out ∙ ap length c.move_all.ensures in
     sym (stored-cells (line_width * a.lines) out (size ∙ omega arith)) ∙ ap stored (c.paint_all.ensures ∙ rw c.move_all.ensures refl)
