@@ -9,6 +9,3 @@ unfolding composed
 returns c = let w = c.wide-end.ensures.0 in
     let e = simp (sub-zero, w) at c.compose_in.ensures in
     simp (sub-zero, w, e)
-
-pub compose_in-requires : goal.compose_in-requires
-compose_in-requires c = (search rules, (search rules, search rules))

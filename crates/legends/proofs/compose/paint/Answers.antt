@@ -31,7 +31,7 @@ overflow_sub-place c = omega (arith, (let it : Placed c.args.legends.now c.args.
 pub text-requires : goal.text-requires
 text-requires c = (let it : Placed c.args.legends.now c.args.at = let s = drop c.args.at c.args.legends.now in
     let w : SoundFirst s = record { head = search rules; size = rw (length-drop c.args.at c.args.legends.now) (search rules) } in
-    placed c.args.legends.now c.args.at w in it).ends
+    placed c.args.legends.now c.args.at w in it).fits
 
 pub paint_rows-requires : goal.paint_rows-requires
 paint_rows-requires c = let n = ap length c.text.ensures ∙ length-text c.args.legends.now c.args.at (let it : Placed c.args.legends.now c.args.at = let s = drop c.args.at c.args.legends.now in
