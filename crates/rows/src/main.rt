@@ -38,7 +38,7 @@ fn run(rt: &impl Print, script: &[u8]) -> io::Result<()> {
 // No more than 65536 bytes are read: a script that has as many may be longer.
 fn main(rt: HostRuntime) -> io::Result<()> {
     let mut script = Vec::new(rt.alloc());
-    rt.reader().take(65536).read_to_end(&mut script)?;
+    rt.stdin().take(65536).read_to_end(&mut script)?;
     if script.len() == 65536 {
         return show::text(&rt, b"The script is longer than 65535 bytes.\n");
     }
