@@ -1,0 +1,8 @@
+-- `Counters::counted`: one counter is counted on by `next`.
+use Rattle.std.proofs.Common.{rules}
+use Rattle.counters.specs.Counters.{counted}
+use Rattle.counters.proofs.Counters.counted.Goals as goal
+
+pub returns : goal.returns
+unfolding counted
+returns c = rw c.next.ensures

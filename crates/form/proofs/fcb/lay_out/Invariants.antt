@@ -1,0 +1,17 @@
+-- What the pass has found, joined with what is left, is the layout of all.
+use mathlib.Core.Path.{◌≡◌, sym, ap, ◌∙◌}
+use Prim.Native.Nat.{suc, ◌*◌, ◌≤◌, ◌-◌}
+use native.Mathlib.Numerals.{add-one}
+use borrow.Author.Rules.{rules}
+use lib.ListN.{length, get_or, drop, drop_of_length-le}
+use lib.Seq.{drop-cons}
+use Rattle.form.specs.Form.{most_units, layout_of}
+use Rattle.form.specs.Pass.{start}
+use Rattle.form.proofs.LayoutLaws.{joined, joined-start, joined_step, joined_end}
+use Rattle.form.proofs.fcb.lay_out.Given as goal
+
+abbrev pub invariant-loop-i : goal.invariant-loop-i
+invariant-loop-i l = (joined l.form l.s (drop l.i l.fcb) ≡ layout_of l.form l.fcb) × ((l.i ≤ length l.fcb) × ((l.s.units ≤ most_units * l.i) × ((l.s.top ≤ l.i) × (l.s.lines ≤ l.i))))
+
+abbrev pub decreases-loop-i : goal.decreases-loop-i
+decreases-loop-i l = length l.fcb - l.i

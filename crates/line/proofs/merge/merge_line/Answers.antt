@@ -1,0 +1,33 @@
+-- The record's codes with the front of the line, and the stand-in with the rest, are the line's codes with the line.
+use mathlib.Core.Path.{◌≡◌, refl, sym, ap, ◌∙◌}
+use mathlib.Core.Bool.{◌||◌}
+use mathlib.Core.List.{List, ◌++◌}
+use Prim.Native.Nat.{ℕ, ◌+◌, ◌*◌, ◌-◌}
+use native.Mathlib.Omega.{arith}
+use native.Mathlib.Nat.{sub-zero}
+use lib.ListN.{length, take, drop, replicate}
+use lib.Seq.{take_at, drop_at}
+use borrow.Author.Rules.{rules}
+use Rattle.numbers.specs.Sizes.{line_width}
+use Rattle.line.specs.declared.Found.{Found}
+use Rattle.line.specs.Cells.{cells_in, stored}
+use Rattle.line.specs.Line.{stand_in, translated, line_codes, merge_line, any_collides}
+use Rattle.line.proofs.LineLaws.{length-translated}
+use Rattle.line.proofs.MergeLaws.{merge-parts, clash-parts, parts-put, part_left}
+use Rattle.line.proofs.merge.merge_line.Goals as goal
+
+pub returns : goal.returns
+unfolding line_codes
+returns c = let a = c.args in
+    let ps = a.pitches in
+    let t = a.table.now in
+    let r = a.sent.now in
+    let e = a.cells.now in
+    let n = length r in
+    let front = simp sub-zero at c.merge_record-found.ensures in
+    let x = c.merge_record-found.new.0 in
+    let long : length x ≡ 2 * n = search rules in
+    let whole : length e ≡ 2 * n + (408 - 2 * n) = search rules in
+    let fill = replicate (line_width - n) (stand_in ps t) in
+    let back = simp (sub-zero, part_left (2 * n) (408 - 2 * n) e x c.merge_fill-clash.new.0 long whole, c.stand_in-other.ensures) at c.merge_fill-clash.ensures in
+    let same = length-translated ps t r in record { cells = simp sub-zero (parts-put (2 * n) (408 - 2 * n) e x c.merge_fill-clash.new.0 long whole ∙ (λ j. front.0 j ++ back.0 j) ∙ merge-parts n e (translated ps t r) fill same); found = λ j. record { unprintables = ap (λ (u : Found). u.unprintables) front.1 j; collision = ((λ i. (front.1 i).collision || back.1 i) ∙ clash-parts n e (translated ps t r) fill same) j } }

@@ -1,0 +1,16 @@
+-- Turn i sets entry i, so the first i are the starting table's.
+use mathlib.Core.Path.{◌≡◌, sym, ◌∙◌}
+use Prim.Native.Nat.{◌≤◌, ◌-◌}
+use lib.ListN.{length, length-set}
+use borrow.Author.Rules.{rules}
+use Rattle.seq.proofs.Loops.{filled, filled_none, filled_more, filled-all}
+use Rattle.numbers.specs.Sizes.{slot_size}
+use Rattle.line.specs.Line.{start_table}
+use Rattle.line.proofs.TableLaws.{length-start_table, get_or-start_table}
+use Rattle.line.proofs.tables.start_table.Given as goal
+
+abbrev pub invariant-loop-i : goal.invariant-loop-i
+invariant-loop-i l = (l.i ≤ slot_size) × ((length l.table ≡ slot_size) × (l.table ≡ filled l.i start_table l.initial.table))
+
+abbrev pub decreases-loop-i : goal.decreases-loop-i
+decreases-loop-i l = slot_size - l.i

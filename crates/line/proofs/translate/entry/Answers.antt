@@ -1,0 +1,6 @@
+-- The table has an entry for every byte.
+use borrow.Author.Rules.{rules}
+use Rattle.line.proofs.translate.entry.Goals as goal
+
+pub returns : goal.returns
+returns c = cc

@@ -1,0 +1,15 @@
+-- With all modules fitted FF alone is unprintable; else the code's own module decides too.
+use mathlib.Core.Path.{sym, ◌∙◌}
+use native.Mathlib.Omega.{arith}
+use borrow.Author.Rules.{rules}
+use Rattle.line.specs.Line.{unprintable}
+use Rattle.line.proofs.CellLaws.{fitted-is}
+use Rattle.line.proofs.translate.is_bad.Goals as goal
+
+pub returns-then-fitted : goal.returns-then-fitted
+returns-then-fitted c = let a = c.args in
+    fitted-is a.t1 a.code (search rules) (search rules) (sym c.fitted.ensures ∙ c.if-fitted.true)
+
+pub returns : goal.returns
+unfolding unprintable
+returns c = rw c.wide-module.ensures.0

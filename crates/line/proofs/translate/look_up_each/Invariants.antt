@@ -1,0 +1,14 @@
+-- Turn i sets cell i, so the first i are codes of the record.
+use mathlib.Core.Path.{◌≡◌, refl, sym, ◌∙◌}
+use Prim.Native.Nat.{◌≤◌, ◌-◌}
+use lib.ListN.{length, get_or, length-set, length-map}
+use borrow.Author.Rules.{rules}
+use Rattle.seq.proofs.Loops.{filled, filled_none, filled_more, filled-all, get_or-map}
+use Rattle.line.specs.Codes.{codes}
+use Rattle.line.proofs.translate.look_up_each.Given as goal
+
+abbrev pub invariant-loop-i : goal.invariant-loop-i
+invariant-loop-i l = (l.i ≤ length l.initial.cells) × ((length l.cells ≡ length l.initial.cells) × (l.cells ≡ filled l.i (codes l.table l.sent) l.initial.cells))
+
+abbrev pub decreases-loop-i : goal.decreases-loop-i
+decreases-loop-i l = length l.initial.cells - l.i

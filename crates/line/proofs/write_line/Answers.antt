@@ -1,0 +1,16 @@
+-- The part lent is the line, and the record is written on it.
+use mathlib.Core.Path.{ap, ◌∙◌}
+use mathlib.Core.Bool.{false, not}
+use native.Mathlib.Nat.{add-sub_cancel_left}
+use lib.ListN.{length}
+use borrow.Author.Rules.{rules}
+use Rattle.line.specs.Line.{line_at, put_line, page_written, text_causes, line_causes}
+use Rattle.line.proofs.TableLaws.{length-serving}
+use Rattle.line.proofs.write_line.Goals as goal
+
+pub put_line-found-requires : goal.put_line-found-requires
+put_line-found-requires c = record { cells_len = search rules; sent_len_bound = search rules; table_len = ap length c.serving-table.ensures ∙ length-serving _ _ (search rules) (search rules) }
+
+pub returns : goal.returns
+unfolding page_written put_line line_at line_causes text_causes
+returns c = let put = simp (add-sub_cancel_left, c.wide.ensures.0, c.serving-table.ensures) at c.put_line-found.ensures in record { page = simp (add-sub_cancel_left, c.wide.ensures.0, put.0); causes = λ j. record { unprintables = (put.1 j).unprintables; unloaded = not (c.is_loaded-unloaded.ensures j); unmatched = false; collision = (put.1 j).collision } }
