@@ -1,4 +1,1 @@
 pub mod CounterLaws
-mod Changes
-mod InPlace
-mod Lent

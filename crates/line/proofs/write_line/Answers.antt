@@ -13,4 +13,4 @@ put_line-found-requires c = record { cells_len = search rules; sent_len_bound = 
 
 pub returns : goal.returns
 unfolding page_written put_line line_at line_causes text_causes
-returns c = let put = simp (add-sub_cancel_left, c.wide.ensures.0, c.serving-table.ensures) at c.put_line-found.ensures in record { page = simp (add-sub_cancel_left, c.wide.ensures.0, put.0); causes = λ j. record { unprintables = (put.1 j).unprintables; unloaded = not (c.is_loaded-unloaded.ensures j); unmatched = false; collision = (put.1 j).collision } }
+returns c = let put_cells = simp (add-sub_cancel_left, c.wide.ensures.0, c.serving-table.ensures) at c.put_line-found.ensures.cells in let put_found = simp (add-sub_cancel_left, c.wide.ensures.0, c.serving-table.ensures) at c.put_line-found.ensures.found in record { page = simp (add-sub_cancel_left, c.wide.ensures.0, put_cells); causes = λ j. record { unprintables = (put_found j).unprintables; unloaded = not (c.is_loaded-unloaded.ensures j); unmatched = false; collision = (put_found j).collision } }

@@ -28,7 +28,7 @@ loop-i-preserved c = let l = c.loop-i in
       (
         simp length-set (search rules),
         cell-more l.i _ 0 (map unruled n) a.cells.now l.cells l.invariant.1.1 (rw (length-map n unruled) here)
-            (sym (ap (λ (c : Cell). c.⟪code⟫) cell)) (sym (ap (λ (c : Cell). c.⟪mark⟫) cell)),
+            (sym (ap (λ (c : Cell). c.code) cell)) (sym (ap (λ (c : Cell). c.mark) cell)),
       ),
     )
 

@@ -30,7 +30,7 @@ loop-i-preserved c = let l = c.loop-i in
       (
         simp length-set (search rules),
         cell-more l.i a.code 0 (map unruled codes) a.cells.now l.cells l.invariant.1.1 (rw (length-map, length-replicate) (search rules))
-            (sym (ap (λ (c : Cell). c.⟪code⟫) cell)) (sym (ap (λ (c : Cell). c.⟪mark⟫) cell)),
+            (sym (ap (λ (c : Cell). c.code) cell)) (sym (ap (λ (c : Cell). c.mark) cell)),
       ),
     )
 

@@ -45,10 +45,10 @@ returns-then-top-fitted c = let a = c.args in
     let line = replicate line_width other in
     let there : length line ≡ line_width = length-replicate line_width other in
     let short = length-take-le (n - 0) line (omega arith) ∙ sub-zero n in
-    let back = c.look_up-top.ensures.cells (take (n - 0) line) short (plain-lent 0 n line c.fill.new.0 c.fill.ensures) in
+    let back = c.look_up-top.ensures.cells (take (n - 0) line) short (plain-lent 0 n line c.fill.new.cells c.fill.ensures) in
     let left : line_width - (n - 0) ≡ line_width - n = omega arith in
     let behind = drop-replicate (n - 0) line_width other ∙ (λ j. replicate (left j) (c.stand_in-other.ensures j)) in
-    plain-put 0 n line c.fill.new.0 c.fill.ensures (codes a.table.now a.sent.now) _ back
+    plain-put 0 n line c.fill.new.cells c.fill.ensures (codes a.table.now a.sent.now) _ back
     ∙ ap (λ (l : List ℕ). plain (codes a.table.now a.sent.now ++ l)) behind) ∙ ap plain (take_at cs (fill ps t r) (n - 0) long) in
     let mended = c.mend.ensures.cells cs lent ∙ (λ j. plain (map (λ x. cond (unprintable ps x) (c.stand_in-other.ensures j) x) cs)) ∙ ap plain (replaced-codes ps t r) in record { cells = plain-put 0 n line _ (let a = c.args in
     let n = length a.sent.now in
@@ -56,10 +56,10 @@ returns-then-top-fitted c = let a = c.args in
     let line = replicate line_width other in
     let there : length line ≡ line_width = length-replicate line_width other in
     let short = length-take-le (n - 0) line (omega arith) ∙ sub-zero n in
-    let back = c.look_up-top.ensures.cells (take (n - 0) line) short (plain-lent 0 n line c.fill.new.0 c.fill.ensures) in
+    let back = c.look_up-top.ensures.cells (take (n - 0) line) short (plain-lent 0 n line c.fill.new.cells c.fill.ensures) in
     let left : line_width - (n - 0) ≡ line_width - n = omega arith in
     let behind = drop-replicate (n - 0) line_width other ∙ (λ j. replicate (left j) (c.stand_in-other.ensures j)) in
-    plain-put 0 n line c.fill.new.0 c.fill.ensures (codes a.table.now a.sent.now) _ back
+    plain-put 0 n line c.fill.new.cells c.fill.ensures (codes a.table.now a.sent.now) _ back
     ∙ ap (λ (l : List ℕ). plain (codes a.table.now a.sent.now ++ l)) behind) (translated ps t r) _ mended
           ∙ ap (λ (l : List ℕ). plain (translated ps t r ++ l)) (drop_at cs (fill ps t r) (n - 0) long); found = c.mend.ensures.found cs lent ∙ ap told (unprintable-codes ps t r) }
 
@@ -81,8 +81,8 @@ returns c = let a = c.args in
     let line = replicate line_width other in
     let there : length line ≡ line_width = length-replicate line_width other in
     let short = length-take-le (n - 0) line (omega arith) ∙ sub-zero n in
-    let back = c.look_up-top.ensures.cells (take (n - 0) line) short (plain-lent 0 n line c.fill.new.0 c.fill.ensures) in
+    let back = c.look_up-top.ensures.cells (take (n - 0) line) short (plain-lent 0 n line c.fill.new.cells c.fill.ensures) in
     let left : line_width - (n - 0) ≡ line_width - n = omega arith in
     let behind = drop-replicate (n - 0) line_width other ∙ (λ j. replicate (left j) (c.stand_in-other.ensures j)) in
-    plain-put 0 n line c.fill.new.0 c.fill.ensures (codes a.table.now a.sent.now) _ back
+    plain-put 0 n line c.fill.new.cells c.fill.ensures (codes a.table.now a.sent.now) _ back
     ∙ ap (λ (l : List ℕ). plain (codes a.table.now a.sent.now ++ l)) behind) ∙ ap (λ (l : List ℕ). plain (l ++ fill ps t r)) (printable-codes ps t r none); found = ap told (sym (printable-none ps t r none)) }

@@ -19,25 +19,21 @@ right at new bs g e a = (sym (ap (λ (x : Cell). put_cell at x bs) g.0 ∙ e), a
 
 pub returns-then-is_blank : goal.returns-then-is_blank
 returns-then-is_blank c = let a = c.args in
-    let b = sym c.is_blank.ensures ∙ c.if-is_blank.true in
-    right a.at a.new a.cells.now (blank-new _ _ b) (put_same a.at a.cells.now) refl
+    let b = sym c.is_blank.ensures ∙ c.if-is_blank.true in let both = right a.at a.new a.cells.now (blank-new _ _ b) (put_same a.at a.cells.now) refl in record { cells = both.0; clash = both.1 }
 
 pub returns-then-is_blank-2 : goal.returns-then-is_blank-2
 returns-then-is_blank-2 c = let a = c.args in
-    let b = sym c.is_blank.ensures ∙ c.if-is_blank.false in
-    right a.at a.new a.cells.now (blank-old _ _ b (sym c.is_blank-2.ensures ∙ c.if-is_blank-2.true)) (put-code a.at a.cells.now a.new) refl
+    let b = sym c.is_blank.ensures ∙ c.if-is_blank.false in let both = right a.at a.new a.cells.now (blank-old _ _ b (sym c.is_blank-2.ensures ∙ c.if-is_blank-2.true)) (put-code a.at a.cells.now a.new) refl in record { cells = both.0; clash = both.1 }
 
 pub returns-then-is_underscore-2 : goal.returns-then-is_underscore-2
-returns-then-is_underscore-2 c = let z = ((sym c.is_blank.ensures ∙ c.if-is_blank.false, sym c.is_blank-2.ensures ∙ c.if-is_blank-2.false)) in
+returns-then-is_underscore-2 c = let z0 = sym c.is_blank.ensures ∙ c.if-is_blank.false in let z1 = sym c.is_blank-2.ensures ∙ c.if-is_blank-2.false in
     let a = c.args in
-    let g = two-underscores _ _ z.0 z.1 (sym c.is_underscore.ensures ∙ c.if-is_underscore.true) (sym c.is_underscore-then-is_underscore.ensures ∙ c.if-is_underscore-2.true) in
-    right a.at a.new a.cells.now g (put_same a.at a.cells.now) refl
+    let g = two-underscores _ _ z0 z1 (sym c.is_underscore.ensures ∙ c.if-is_underscore.true) (sym c.is_underscore-then-is_underscore.ensures ∙ c.if-is_underscore-2.true) in let both = right a.at a.new a.cells.now g (put_same a.at a.cells.now) refl in record { cells = both.0; clash = both.1 }
 
 pub returns-then-is_underscore : goal.returns-then-is_underscore
-returns-then-is_underscore c = let z = ((sym c.is_blank.ensures ∙ c.if-is_blank.false, sym c.is_blank-2.ensures ∙ c.if-is_blank-2.false)) in
+returns-then-is_underscore c = let z0 = sym c.is_blank.ensures ∙ c.if-is_blank.false in let z1 = sym c.is_blank-2.ensures ∙ c.if-is_blank-2.false in
     let a = c.args in
-    let g = underscore-new _ _ z.0 z.1 (sym c.is_underscore.ensures ∙ c.if-is_underscore.true) (sym c.is_underscore-then-is_underscore.ensures ∙ c.if-is_underscore-2.false) in
-    right a.at a.new a.cells.now g (put-mark a.at a.cells.now 1) refl
+    let g = underscore-new _ _ z0 z1 (sym c.is_underscore.ensures ∙ c.if-is_underscore.true) (sym c.is_underscore-then-is_underscore.ensures ∙ c.if-is_underscore-2.false) in let both = right a.at a.new a.cells.now g (put-mark a.at a.cells.now 1) refl in record { cells = both.0; clash = both.1 }
 
 -- the second store finds as many bytes as the first
 pub bounds-cells-at-then-is_underscore-3-2 : goal.bounds-cells-at-then-is_underscore-3-2
@@ -47,13 +43,11 @@ pub shape_of-cells-then-is_underscore-3 : goal.shape_of-cells-then-is_underscore
 shape_of-cells-then-is_underscore-3 c = simp length-set refl
 
 pub returns-then-is_underscore-3 : goal.returns-then-is_underscore-3
-returns-then-is_underscore-3 c = let z = ((sym c.is_blank.ensures ∙ c.if-is_blank.false, sym c.is_blank-2.ensures ∙ c.if-is_blank-2.false)) in
+returns-then-is_underscore-3 c = let z0 = sym c.is_blank.ensures ∙ c.if-is_blank.false in let z1 = sym c.is_blank-2.ensures ∙ c.if-is_blank-2.false in
     let a = c.args in
-    let g = underscore-old _ _ z.0 z.1 (sym c.is_underscore.ensures ∙ c.if-is_underscore.false) (sym c.is_underscore-2.ensures ∙ c.if-is_underscore-3.true) in
-    right a.at a.new a.cells.now g refl refl
+    let g = underscore-old _ _ z0 z1 (sym c.is_underscore.ensures ∙ c.if-is_underscore.false) (sym c.is_underscore-2.ensures ∙ c.if-is_underscore-3.true) in let both = right a.at a.new a.cells.now g refl refl in record { cells = both.0; clash = both.1 }
 
 pub returns : goal.returns
-returns c = let z = ((sym c.is_blank.ensures ∙ c.if-is_blank.false, sym c.is_blank-2.ensures ∙ c.if-is_blank-2.false)) in
+returns c = let z0 = sym c.is_blank.ensures ∙ c.if-is_blank.false in let z1 = sym c.is_blank-2.ensures ∙ c.if-is_blank-2.false in
     let a = c.args in
-    let g = characters _ _ z.0 z.1 (sym c.is_underscore.ensures ∙ c.if-is_underscore.false) (sym c.is_underscore-2.ensures ∙ c.if-is_underscore-3.false) in
-    right a.at a.new a.cells.now g (put_same a.at a.cells.now) refl
+    let g = characters _ _ z0 z1 (sym c.is_underscore.ensures ∙ c.if-is_underscore.false) (sym c.is_underscore-2.ensures ∙ c.if-is_underscore-3.false) in let both = right a.at a.new a.cells.now g (put_same a.at a.cells.now) refl in record { cells = both.0; clash = both.1 }

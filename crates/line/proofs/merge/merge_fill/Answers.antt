@@ -8,8 +8,7 @@ use Rattle.line.proofs.MergeLaws.{Merged, merged-none, merged-more, merged-all, 
 use Rattle.line.proofs.merge.merge_fill.Goals as goal
 
 pub returns-then-is_blank : goal.returns-then-is_blank
-returns-then-is_blank c = let a = c.args in
-    merge-blanks a.count a.code a.cells.now (sym c.is_blank.ensures ∙ c.if-is_blank.true) (search rules)
+returns-then-is_blank c = let a = c.args in let both = merge-blanks a.count a.code a.cells.now (sym c.is_blank.ensures ∙ c.if-is_blank.true) (search rules) in record { cells = both.0; clash = both.1 }
 
 pub loop-i-init : goal.loop-i-init
 loop-i-init c = (search rules, merged-none _ _)
@@ -26,5 +25,4 @@ loop-i-preserved c = let l = c.loop-i in
 
 pub returns : goal.returns
 returns c = let l = c.loop-i in
-    let a = c.args in
-    merged-all _ _ (rw (length-replicate a.count a.code) (search rules)) (rw (length-replicate a.count a.code) (search rules)) l.invariant.1
+    let a = c.args in let both = merged-all _ _ (rw (length-replicate a.count a.code) (search rules)) (rw (length-replicate a.count a.code) (search rules)) l.invariant.1 in record { cells = both.0; clash = both.1 }

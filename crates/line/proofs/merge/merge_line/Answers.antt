@@ -24,10 +24,10 @@ returns c = let a = c.args in
     let r = a.sent.now in
     let e = a.cells.now in
     let n = length r in
-    let front = simp sub-zero at c.merge_record-found.ensures in
-    let x = c.merge_record-found.new.0 in
+    let front_cells = simp sub-zero at c.merge_record-found.ensures.cells in let front_found = simp sub-zero at c.merge_record-found.ensures.found in
+    let x = c.merge_record-found.new.cells in
     let long : length x ≡ 2 * n = search rules in
     let whole : length e ≡ 2 * n + (408 - 2 * n) = search rules in
     let fill = replicate (line_width - n) (stand_in ps t) in
-    let back = simp (sub-zero, part_left (2 * n) (408 - 2 * n) e x c.merge_fill-clash.new.0 long whole, c.stand_in-other.ensures) at c.merge_fill-clash.ensures in
-    let same = length-translated ps t r in record { cells = simp sub-zero (parts-put (2 * n) (408 - 2 * n) e x c.merge_fill-clash.new.0 long whole ∙ (λ j. front.0 j ++ back.0 j) ∙ merge-parts n e (translated ps t r) fill same); found = λ j. record { unprintables = ap (λ (u : Found). u.unprintables) front.1 j; collision = ((λ i. (front.1 i).collision || back.1 i) ∙ clash-parts n e (translated ps t r) fill same) j } }
+    let back_cells = simp (sub-zero, part_left (2 * n) (408 - 2 * n) e x c.merge_fill-clash.new.cells long whole, c.stand_in-other.ensures) at c.merge_fill-clash.ensures.cells in let back_clash = simp (sub-zero, part_left (2 * n) (408 - 2 * n) e x c.merge_fill-clash.new.cells long whole, c.stand_in-other.ensures) at c.merge_fill-clash.ensures.clash in
+    let same = length-translated ps t r in record { cells = simp sub-zero (parts-put (2 * n) (408 - 2 * n) e x c.merge_fill-clash.new.cells long whole ∙ (λ j. front_cells j ++ back_cells j) ∙ merge-parts n e (translated ps t r) fill same); found = λ j. record { unprintables = ap (λ (u : Found). u.unprintables) front_found j; collision = ((λ i. (front_found i).collision || back_clash i) ∙ clash-parts n e (translated ps t r) fill same) j } }

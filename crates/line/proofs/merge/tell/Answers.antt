@@ -12,11 +12,10 @@ use Rattle.line.proofs.merge.tell.Goals as goal
 pub loop-i-init : goal.loop-i-init
 loop-i-init c = (search rules, telling-none _ _)
 
--- TODO need overflow-add-count
--- add-count : tie.Need-overflow-add-count invariant-loop decreases-loop
--- add-count c =
---     let l = c.before.before.before.before.before.before.loop in
---     Fits-below {n = 0xFFFF} tt (omega (arith, l.invariant.0, telling-few _ _ l.invariant.1, c.flag.ensures.1))
+-- the count goes no further than the bytes do
+pub overflow_add-count : goal.overflow_add-count
+overflow_add-count c = let l = c.loop-i in
+    Fits-below {n = 0xFFFF} tt (omega (arith, l.invariant.0, telling-few _ _ l.invariant.1, c.flag.ensures.1))
 
 pub loop-i-preserved : goal.loop-i-preserved
 loop-i-preserved c = let l = c.loop-i in

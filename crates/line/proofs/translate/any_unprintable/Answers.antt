@@ -15,7 +15,7 @@ use Rattle.line.proofs.translate.any_unprintable.Goals as goal
 pub returns : goal.returns
 returns c = let a = c.args in
     let codes = a.codes.now in
-    let ps = a.t2 in
+    let ps = a.pitches in
     let bytes : (k : ℕ) → get_or codes k 0 ≤ 255 = λ k. omega (arith, c.shared_slice_known-1.given k) in
     (λ i. c.any_above_by.ensures i || c.any_absent.ensures i || c.any_absent-2.ensures i || c.any_absent-3.ensures i
     || c.any_absent-4.ensures i)

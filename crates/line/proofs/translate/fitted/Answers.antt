@@ -8,4 +8,4 @@ use Rattle.seq.proofs.Laws.{four}
 use Rattle.line.proofs.translate.fitted.Goals as goal
 
 pub returns : goal.returns
-returns c = simp and-true at (ap (all (λ p. not (eqb p 0))) (four c.args.t1 (search rules)))
+returns c = simp and-true at (ap (all (λ p. not (eqb p 0))) (four c.args.pitches (search rules)))

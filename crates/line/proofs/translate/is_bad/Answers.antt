@@ -8,7 +8,7 @@ use Rattle.line.proofs.translate.is_bad.Goals as goal
 
 pub returns-then-fitted : goal.returns-then-fitted
 returns-then-fitted c = let a = c.args in
-    fitted-is a.t1 a.code (search rules) (search rules) (sym c.fitted.ensures ∙ c.if-fitted.true)
+    fitted-is a.pitches a.code (search rules) (search rules) (sym c.fitted.ensures ∙ c.if-fitted.true)
 
 pub returns : goal.returns
 unfolding unprintable

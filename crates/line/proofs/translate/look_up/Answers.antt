@@ -27,6 +27,5 @@ pub returns : goal.returns
 returns c = let l = c.loop-at in
     let a = c.args in
     let rest = length a.sent.now - l.at in
-    let w = c.look_up_each-2.ensures in
-    let e = codes-more a.table.now a.sent.now l.cells _ l.at rest (search rules) (search rules) l.invariant.1.1.1 w in
+    let e = codes-more a.table.now a.sent.now l.cells _ l.at rest (search rules) (search rules) l.invariant.1.1.1 c.look_up_each-2.ensures in
     sym (take_all (l.at + rest) _ (search rules)) ∙ e ∙ ap (codes a.table.now) (take_all (l.at + rest) a.sent.now (search rules))

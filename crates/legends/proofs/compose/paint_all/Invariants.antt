@@ -1,0 +1,19 @@
+-- Each turn paints one segment; those from `at` on are left. Legends that a printer can have are sound segments.
+use mathlib.Core.Path.{◌≡◌, refl, ◌∙◌}
+use mathlib.Core.List.{List, map}
+use Prim.Native.Nat.{ℕ, ◌≤◌, ◌+◌, ◌-◌}
+use native.Mathlib.Omega.{arith}
+use lib.ListN.{length, drop, get_or-eq_default}
+use borrow.Author.Rules.{rules}
+use Rattle.line.specs.Cells.{cells_in}
+use Rattle.legends.specs.Legends.{segment_of, segment_length, stored_segments, copy_from}
+use Rattle.legends.proofs.SegmentLaws.{SoundFirst, end-at}
+use Rattle.legends.proofs.ComposeLaws.{Left, left-start, left_here, left_step, left_end}
+use Rattle.legends.proofs.compose.paint_all.Given as goal
+
+abbrev pub invariant-loop-at : goal.invariant-loop-at
+invariant-loop-at l = (l.at ≤ length l.legends)
+    × ((length l.out ≡ length l.initial.out) × Left l.legends l.number l.at (cells_in l.out) (copy_from (map segment_of (stored_segments l.legends)) l.number 0 (cells_in l.initial.out)))
+
+abbrev pub decreases-loop-at : goal.decreases-loop-at
+decreases-loop-at l = length l.legends - l.at

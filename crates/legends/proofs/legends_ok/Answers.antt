@@ -1,0 +1,8 @@
+-- Where the sound segments end, the legends do, and all that is left has to be 00.
+use mathlib.Core.Path.{sym, ◌∙◌}
+use Rattle.legends.proofs.StoredLaws.{ok_end}
+use borrow.Author.Rules.{rules}
+use Rattle.legends.proofs.legends_ok.Goals as goal
+
+pub returns : goal.returns
+returns c = c.zero_from.ensures ∙ sym (c.sound_end-at.ensures.stored ∙ ok_end _ c.sound_end-at.ensures.stops)
