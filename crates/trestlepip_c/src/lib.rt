@@ -1,0 +1,156 @@
+// The ten functions that a C host calls, each by its own name. Each calls the function of that name in trestlepip, and its contract is that one's.
+#![tactic(auto)]
+
+ghost use Rattle.std.specs.Prelude.{◌≡◌, [], ◌∷◌};
+ghost use Rattle.counters.specs.declared.Tally.TheVariants.{Transferred, Fused, Stacked, Cancel, Restart};
+ghost use Rattle.paper.specs.Feet.{sent};
+ghost use Rattle.calls.specs.Core.{stores_of};
+ghost use Rattle.calls.specs.Commands.{issued};
+ghost use Rattle.calls.specs.Calls.{command, compose, release, tally};
+ghost use Rattle.calls.specs.Start.{asked};
+ghost use Rattle.state.specs.Host.{called, call_bytes, start_bytes, told, feet_told};
+
+#[unsafe(no_mangle)]
+pub extern "C" fn trestlepip_start(
+    form: u32,
+    pitch0: u32,
+    pitch1: u32,
+    pitch2: u32,
+    pitch3: u32,
+    skip: u32,
+    state: &mut [u8],
+    page: &mut [u8],
+    legends: &mut [u8],
+    tables: &mut [u8],
+) -> u64
+    ensures { called result [] state.new (stores_of page.new legends.new tables.new)
+        ≡ start_bytes (asked form (pitch0 ∷ pitch1 ∷ pitch2 ∷ pitch3 ∷ []) skip) state.old
+        (stores_of page.old legends.old tables.old) }
+{
+    trestlepip::trestlepip_start(
+        form, pitch0, pitch1, pitch2, pitch3, skip, state, page, legends, tables,
+    )
+}
+
+#[unsafe(no_mangle)]
+pub extern "C" fn trestlepip_command(
+    byte: u8,
+    sent: &[u8],
+    reply: &mut [u8],
+    state: &mut [u8],
+    page: &mut [u8],
+    legends: &mut [u8],
+    tables: &mut [u8],
+) -> u64
+    ensures { called result reply.new state.new (stores_of page.new legends.new tables.new)
+        ≡ call_bytes state.old (stores_of page.old legends.old tables.old)
+        (command (issued byte sent.now reply.old)) }
+{
+    trestlepip::trestlepip_command(byte, sent, reply, state, page, legends, tables)
+}
+
+#[unsafe(no_mangle)]
+pub extern "C" fn trestlepip_compose(
+    copy: u32,
+    out: &mut [u8],
+    state: &[u8],
+    page: &[u8],
+    legends: &[u8],
+    tables: &[u8],
+) -> u64
+    ensures { let m = stores_of page.now legends.now tables.now in
+        called result out.new state.now m ≡ call_bytes state.now m (compose copy out.old) }
+{
+    trestlepip::trestlepip_compose(copy, out, state, page, legends, tables)
+}
+
+#[unsafe(no_mangle)]
+pub extern "C" fn trestlepip_release(
+    state: &mut [u8],
+    page: &mut [u8],
+    legends: &mut [u8],
+    tables: &mut [u8],
+) -> u64
+    ensures { called result [] state.new (stores_of page.new legends.new tables.new)
+        ≡ call_bytes state.old (stores_of page.old legends.old tables.old) release }
+{
+    trestlepip::trestlepip_release(state, page, legends, tables)
+}
+
+#[unsafe(no_mangle)]
+pub extern "C" fn trestlepip_transferred(
+    state: &mut [u8],
+    page: &[u8],
+    legends: &[u8],
+    tables: &[u8],
+) -> u64
+    ensures { let m = stores_of page.now legends.now tables.now in
+        called result [] state.new m ≡ call_bytes state.old m (tally Transferred) }
+{
+    trestlepip::trestlepip_transferred(state, page, legends, tables)
+}
+
+#[unsafe(no_mangle)]
+pub extern "C" fn trestlepip_fused(
+    state: &mut [u8],
+    page: &[u8],
+    legends: &[u8],
+    tables: &[u8],
+) -> u64
+    ensures { let m = stores_of page.now legends.now tables.now in
+        called result [] state.new m ≡ call_bytes state.old m (tally Fused) }
+{
+    trestlepip::trestlepip_fused(state, page, legends, tables)
+}
+
+#[unsafe(no_mangle)]
+pub extern "C" fn trestlepip_stacked(
+    state: &mut [u8],
+    page: &[u8],
+    legends: &[u8],
+    tables: &[u8],
+) -> u64
+    ensures { let m = stores_of page.now legends.now tables.now in
+        called result [] state.new m ≡ call_bytes state.old m (tally Stacked) }
+{
+    trestlepip::trestlepip_stacked(state, page, legends, tables)
+}
+
+#[unsafe(no_mangle)]
+pub extern "C" fn trestlepip_cancel(
+    state: &mut [u8],
+    page: &[u8],
+    legends: &[u8],
+    tables: &[u8],
+) -> u64
+    ensures { let m = stores_of page.now legends.now tables.now in
+        called result [] state.new m ≡ call_bytes state.old m (tally Cancel) }
+{
+    trestlepip::trestlepip_cancel(state, page, legends, tables)
+}
+
+#[unsafe(no_mangle)]
+pub extern "C" fn trestlepip_restart(
+    state: &mut [u8],
+    page: &[u8],
+    legends: &[u8],
+    tables: &[u8],
+) -> u64
+    ensures { let m = stores_of page.now legends.now tables.now in
+        called result [] state.new m ≡ call_bytes state.old m (tally Restart) }
+{
+    trestlepip::trestlepip_restart(state, page, legends, tables)
+}
+
+#[unsafe(no_mangle)]
+pub extern "C" fn trestlepip_feet(
+    initial: u16,
+    last: u16,
+    copies: u32,
+    form: u32,
+    feet: &mut f64,
+) -> u64
+    ensures { told result feet.new ≡ feet_told (sent initial last copies form) }
+{
+    trestlepip::trestlepip_feet(initial, last, copies, form, feet)
+}
