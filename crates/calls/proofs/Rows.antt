@@ -1,9 +1,10 @@
 -- Document 01, "Rows for the table": R1 to R12, rows of our own, and rows for the requests of document 02, proved by computation.
 use Prim.Native.Nat.{ℕ, ◌+◌, ◌*◌, ◌-◌}
-use mathlib.Core.Path.{◌≡◌, refl}
+use mathlib.Core.Path.{◌≡◌, refl, sym, ap, ◌∙◌}
 use mathlib.Core.Bool.{Bool, true, false}
-use mathlib.Core.List.{List, [], ◌∷◌, ◌++◌, map, flatten, zip_with}
-use lib.ListN.{length, replicate}
+use mathlib.Core.List.{List, [], ◌∷◌, ◌++◌, map, map-append, flatten, zip_with}
+use lib.ListN.{length, replicate, take, drop}
+use Rattle.std.proofs.lemmas.List.{take-append-drop}
 use Rattle.seq.specs.Words.{from, bit, zeros, when, first_or, every, padded}
 use Rattle.numbers.specs.Sizes.{line_width, line_bytes, page_size, legend_size, slot_size, table_size, sense_size}
 use Rattle.numbers.specs.declared.Sense.{Sense}
@@ -434,22 +435,64 @@ seen l = let s = since_reset (begun tens new_way) l.calls in record { calls = l.
 abbrev space_then_clear : World
 space_then_clear = world_after (begun tens new_way) (cmd 0x0B ∷ cmd 0x87 ∷ [])
 
-pub rows-table : map see rows ≡ rows
+-- A table in parts, since a whole one takes too many steps: what holds of the first n rows and of those after them holds of all.
+in_parts : (n : ℕ) (rs : List Row) → map see (take n rs) ≡ take n rs → map see (drop n rs) ≡ drop n rs → map see rs ≡ rs
+in_parts n rs before behind =
+    let whole = take-append-drop n rs in
+    ap (map see) (sym whole) ∙ map-append see (take n rs) (drop n rs) ∙ (λ i. before i ++ behind i) ∙ whole
+
+rows-table-part-1 : map see (take 10 rows) ≡ take 10 rows
 unfolding see rows
-rows-table = refl
+rows-table-part-1 = refl
+
+rows-table-part-2 : map see (drop 10 rows) ≡ drop 10 rows
+unfolding see rows
+rows-table-part-2 = refl
+
+pub rows-table : map see rows ≡ rows
+rows-table = in_parts 10 rows rows-table-part-1 rows-table-part-2
+
+old-rows-table-part-1 : map see (take 10 (map in_old_way rows)) ≡ take 10 (map in_old_way rows)
+unfolding see rows
+old-rows-table-part-1 = refl
+
+old-rows-table-part-2 : map see (drop 10 (map in_old_way rows)) ≡ drop 10 (map in_old_way rows)
+unfolding see rows
+old-rows-table-part-2 = refl
 
 -- T-05: in the old way all of them hold, R6 too.
 pub old-rows-table : map see (map in_old_way rows) ≡ map in_old_way rows
-unfolding see rows
-old-rows-table = refl
+old-rows-table = in_parts 10 (map in_old_way rows) old-rows-table-part-1 old-rows-table-part-2
+
+ours-table-part-1 : map see (take 9 ours) ≡ take 9 ours
+unfolding see ours
+ours-table-part-1 = refl
+
+ours-table-part-2 : map see (take 8 (drop 9 ours)) ≡ take 8 (drop 9 ours)
+unfolding see ours
+ours-table-part-2 = refl
+
+ours-table-part-3 : map see (drop 8 (drop 9 ours)) ≡ drop 8 (drop 9 ours)
+unfolding see ours
+ours-table-part-3 = refl
 
 pub ours-table : map see ours ≡ ours
-unfolding see ours
-ours-table = refl
+ours-table = in_parts 9 ours ours-table-part-1 (in_parts 8 (drop 9 ours) ours-table-part-2 ours-table-part-3)
+
+requests-table-part-1 : map see (take 6 requests) ≡ take 6 requests
+unfolding see requests
+requests-table-part-1 = refl
+
+requests-table-part-2 : map see (take 6 (drop 6 requests)) ≡ take 6 (drop 6 requests)
+unfolding see requests
+requests-table-part-2 = refl
+
+requests-table-part-3 : map see (drop 6 (drop 6 requests)) ≡ drop 6 (drop 6 requests)
+unfolding see requests
+requests-table-part-3 = refl
 
 pub requests-table : map see requests ≡ requests
-unfolding see requests
-requests-table = refl
+requests-table = in_parts 6 requests requests-table-part-1 (in_parts 6 (drop 6 requests) requests-table-part-2 requests-table-part-3)
 
 pub skips-table : map see skips ≡ skips
 unfolding see skips

@@ -1,0 +1,8 @@
+-- The definition itself.
+use Rattle.copies.specs.Copies.{copy_mark}
+use borrow.Author.Rules.{rules}
+use Rattle.printer.proofs.Printer.mark_of.Goals as goal
+
+pub returns : goal.returns
+unfolding copy_mark
+returns c = c.copy_mark.ensures

@@ -1,0 +1,9 @@
+-- No-Op itself.
+use Rattle.numbers.specs.Numbers.{row_of}
+use Rattle.calls.specs.Effects.{do_control}
+use borrow.Author.Rules.{rules}
+use Rattle.printer.proofs.Printer.no_op.Goals as goal
+
+pub returns : goal.returns
+unfolding do_control row_of
+returns c = λ m b. rw c.only.ensures

@@ -1,0 +1,12 @@
+-- Its nine fields, each in its place.
+use Rattle.state.specs.Packed.{packed}
+use borrow.Author.Rules.{rules}
+use Rattle.state.proofs.answer.pack.Goals as goal
+
+pub join-requires : goal.join-requires
+unfolding packed
+join-requires c = rw (c.flag.ensures.0, c.row-row.ensures) c.requires
+
+pub returns : goal.returns
+unfolding packed
+returns c = rw (c.join.ensures, c.flag.ensures.0, c.row-row.ensures)

@@ -1,0 +1,9 @@
+-- The front laid over its place, then the sheet and the sense over theirs.
+use lib.Seq.{drop-drop}
+use Prim.Native.Nat.{◌-◌}
+use Rattle.printer.specs.Layout.{sheet_at, pairs_at}
+use borrow.Author.Rules.{rules}
+use Rattle.state.proofs.codec.lay_small.Goals as goal
+
+pub returns : goal.returns
+returns c = rw (c.lay_sheet.ensures, c.copy_all.ensures, c.front_bytes-front.ensures, drop-drop (pairs_at - sheet_at) sheet_at c.args.s.now)
