@@ -4,6 +4,7 @@ ghost use Rattle.std.specs.Prelude.{◌<◌};
 use script::stores::{Legends, Lent, Page, State, Tables, double, part, quadruple};
 use script::words::Given;
 use script::{show, stores, words};
+use std::io;
 
 // What follows the first of n bytes.
 fn record_of(given: &[u8], n: usize) -> &[u8] {
@@ -121,6 +122,7 @@ fn lend(
 
 // A call, and its figures.
 fn tell(
+    rt: &impl Print,
     letter: u8,
     given: &Given,
     n: usize,
@@ -129,7 +131,7 @@ fn tell(
     page: &mut Page,
     legends: &mut Legends,
     tables: &mut Tables,
-) {
+) -> io::Result<()> {
     let was_state = *state;
     let was_page = *page;
     let was_legends = *legends;
@@ -148,9 +150,10 @@ fn tell(
         legends,
         tables,
     );
-    show::answer(answer);
-    show::state(state, page);
+    show::answer(rt, answer)?;
+    show::state(rt, state, page)?;
     stores::changed(
+        rt,
         state,
         &was_state,
         page,
@@ -159,40 +162,42 @@ fn tell(
         &was_legends,
         tables,
         &was_tables,
-    );
-    stores::written(answer, letter, given[0], &buffer, page);
+    )?;
+    stores::written(rt, answer, letter, given[0], &buffer, page)?;
     if letter == b'F' {
-        show::feet(paper);
+        show::feet(rt, paper)?;
     }
+    Ok(())
 }
 
 // One line of the script, and whether it could be read.
 pub fn obey(
+    rt: &impl Print,
     line: &[u8],
     lent: &mut Lent,
     state: &mut State,
     page: &mut Page,
     legends: &mut Legends,
     tables: &mut Tables,
-) -> bool {
-    show::text(line);
+) -> io::Result<bool> {
+    show::text(rt, line)?;
     let letter = words::letter(line);
     let mut given = [0u8; words::GIVEN_ROOM];
     let n = words::bytes(line, letter, &mut given);
     if !words::meant(letter, n) {
-        return false;
+        return Ok(false);
     }
     match letter {
-        b'#' => true,
-        b'P' => stores::poke(state, seq::wide(given[0]), given[1]),
-        b'G' => stores::poke(legends, double(&given, 0), given[2]),
-        b'M' => stores::poke(page, double(&given, 0), given[2]),
-        b'L' => stores::resize(&given, lent),
-        b'B' => stores::resize_buffer(&given, lent),
+        b'#' => Ok(true),
+        b'P' => Ok(stores::poke(state, seq::wide(given[0]), given[1])),
+        b'G' => Ok(stores::poke(legends, double(&given, 0), given[2])),
+        b'M' => Ok(stores::poke(page, double(&given, 0), given[2])),
+        b'L' => Ok(stores::resize(&given, lent)),
+        b'B' => Ok(stores::resize_buffer(&given, lent)),
         _ => {
-            tell(letter, &given, n, lent, state, page, legends, tables);
+            tell(rt, letter, &given, n, lent, state, page, legends, tables)?;
             *lent = stores::USUAL;
-            true
+            Ok(true)
         }
     }
 }

@@ -3,11 +3,12 @@
 
 mod bench;
 
-use libc::STDIN_FILENO;
 use script::{show, stores, words};
+use std::io;
+use std::io::Read;
 
 // Line after line, to the end or to one that cannot be read. The stores begin with bytes that no Start leaves.
-fn run(script: &[u8]) {
+fn run(rt: &impl Print, script: &[u8]) -> io::Result<()> {
     let mut lent = stores::USUAL;
     let mut state = [4u8; stores::STATE_ROOM];
     let mut page = [5u8; stores::PAGE_ROOM];
@@ -17,29 +18,29 @@ fn run(script: &[u8]) {
     while at < script.len() {
         let end = words::until(script, at, b'\n');
         let read = bench::obey(
+            rt,
             &script[at..end],
             &mut lent,
             &mut state,
             &mut page,
             &mut legends,
             &mut tables,
-        );
+        )?;
         if !read {
-            show::text(b" not read\n");
-            return;
+            return show::text(rt, b" not read\n");
         }
-        show::text(b"\n");
+        show::text(rt, b"\n")?;
         at = words::next(script, at, b'\n');
     }
+    Ok(())
 }
 
-// A script that fills the buffer may be longer than it.
-fn main() {
-    let mut script = io::large_buffer();
-    let n = io::read_full(STDIN_FILENO, &mut script);
-    if n == 65536 {
-        show::text(b"The script is longer than 65535 bytes.\n");
-        return;
+// No more than 65536 bytes are read: a script that has as many may be longer.
+fn main(rt: HostRuntime) -> io::Result<()> {
+    let mut script = Vec::new(rt.alloc());
+    rt.stdin().take(65536).read_to_end(&mut script)?;
+    if script.len() == 65536 {
+        return show::text(&rt, b"The script is longer than 65535 bytes.\n");
     }
-    run(&script[..n]);
+    run(&rt, &script)
 }

@@ -6,6 +6,7 @@ use crate::show;
 use crate::words::{COMMAND, Given};
 use numbers::Stores;
 use printer::Printer;
+use std::io;
 
 // Each store has room for one byte more than it is to have, and the buffer for one more than a page, so that too much can be lent.
 pub const STATE_ROOM: usize = Printer::STATE_BYTES + 1;
@@ -67,16 +68,23 @@ pub fn part<'a>(s: &'a mut [u8], lent: &Lent, which: usize) -> &'a mut [u8]
 }
 
 // How many bytes of each store are not 00.
-fn filled(state: &State, page: &Page, legends: &Legends, tables: &Tables) {
-    show::text(b" | filled");
-    show::differ(b" state", state, &[0; Printer::STATE_BYTES]);
-    show::differ(b" page", page, &[0; Stores::PAGE_BYTES]);
-    show::differ(b" legends", legends, &[0; Stores::LEGEND_BYTES]);
-    show::differ(b" tables", tables, &[0; Stores::TABLE_BYTES]);
+fn filled(
+    rt: &impl Print,
+    state: &State,
+    page: &Page,
+    legends: &Legends,
+    tables: &Tables,
+) -> io::Result<()> {
+    show::text(rt, b" | filled")?;
+    show::differ(rt, b" state", state, &[0; Printer::STATE_BYTES])?;
+    show::differ(rt, b" page", page, &[0; Stores::PAGE_BYTES])?;
+    show::differ(rt, b" legends", legends, &[0; Stores::LEGEND_BYTES])?;
+    show::differ(rt, b" tables", tables, &[0; Stores::TABLE_BYTES])
 }
 
 // In how many bytes each store differs, and how many of these are sense bytes of the state; then what the stores hold.
 pub fn changed(
+    rt: &impl Print,
     state: &State,
     was_state: &State,
     page: &Page,
@@ -85,47 +93,56 @@ pub fn changed(
     was_legends: &Legends,
     tables: &Tables,
     was_tables: &Tables,
-) {
+) -> io::Result<()> {
     let x = &state[..];
     let y = &was_state[..];
-    show::text(b" | changed");
-    show::differ(b" state", x, y);
+    show::text(rt, b" | changed")?;
+    show::differ(rt, b" state", x, y)?;
     show::differ(
+        rt,
         b" sense",
         &x[Printer::SENSE0_AT..Printer::PAIRS_AT],
         &y[Printer::SENSE0_AT..Printer::PAIRS_AT],
-    );
-    show::differ(b" page", page, was_page);
-    show::differ(b" legends", legends, was_legends);
-    show::differ(b" tables", tables, was_tables);
-    filled(state, page, legends, tables);
+    )?;
+    show::differ(rt, b" page", page, was_page)?;
+    show::differ(rt, b" legends", legends, was_legends)?;
+    show::differ(rt, b" tables", tables, was_tables)?;
+    filled(rt, state, page, legends, tables)
 }
 
 // What the call wrote into the buffer. Of an accepted copy: the first line's first and last cell, how many bytes are not 00, and how many are not the
 // page's. Of an accepted Sense: bytes 0 to 3, 22 and 23.
-pub fn written(answer: u64, letter: u8, code: u8, buffer: &Buffer, page: &Page) {
+pub fn written(
+    rt: &impl Print,
+    answer: u64,
+    letter: u8,
+    code: u8,
+    buffer: &Buffer,
+    page: &Page,
+) -> io::Result<()> {
     let n = show::unlike(buffer, &[UNWRITTEN; BUFFER_ROOM]);
-    show::figure(b" | buffer", n as u64);
+    show::figure(rt, b" | buffer", n as u64)?;
     if answer % 0x100 != 0 {
-        return;
+        return Ok(());
     }
     if letter == b'C' {
         let copy = seq::front(buffer, n);
         let last = Stores::LINE_BYTES - Stores::CELL_BYTES;
-        show::pair(b" cell 1", buffer[0], buffer[1]);
-        show::count(b" cell", Stores::LINE_CELLS as u64);
-        show::pair(b"", buffer[last], buffer[last + 1]);
-        show::differ(b" filled", copy, &[0; BUFFER_ROOM]);
-        show::differ(b" unlike", copy, page);
+        show::pair(rt, b" cell 1", buffer[0], buffer[1])?;
+        show::count(rt, b" cell", Stores::LINE_CELLS as u64)?;
+        show::pair(rt, b"", buffer[last], buffer[last + 1])?;
+        show::differ(rt, b" filled", copy, &[0; BUFFER_ROOM])?;
+        show::differ(rt, b" unlike", copy, page)?;
     }
     if (letter == COMMAND) & (code == 0x04) {
-        show::byte(b" reply", buffer[0]);
-        show::byte(b"", buffer[1]);
-        show::byte(b"", buffer[2]);
-        show::byte(b"", buffer[3]);
-        show::byte(b" ..", buffer[22]);
-        show::byte(b"", buffer[23]);
+        show::byte(rt, b" reply", buffer[0])?;
+        show::byte(rt, b"", buffer[1])?;
+        show::byte(rt, b"", buffer[2])?;
+        show::byte(rt, b"", buffer[3])?;
+        show::byte(rt, b" ..", buffer[22])?;
+        show::byte(rt, b"", buffer[23])?;
     }
+    Ok(())
 }
 
 pub fn poke(s: &mut [u8], at: usize, value: u8) -> bool {

@@ -2,56 +2,58 @@
 use calls::{Command, Control, Load};
 use movement::Motion;
 use script::show;
+use std::io;
 
-fn motion(name: &[u8], motion: Motion) {
-    show::text(name);
+fn motion(rt: &impl Print, name: &[u8], motion: Motion) -> io::Result<()> {
+    show::text(rt, name)?;
     match motion {
-        Motion::Space(lines) => show::count(b" space", lines as u64),
-        Motion::Skip(channel) => show::count(b" skip", channel as u64),
+        Motion::Space(lines) => show::count(rt, b" space", lines as u64),
+        Motion::Skip(channel) => show::count(rt, b" skip", channel as u64),
     }
 }
 
-fn control(control: Control) {
+fn control(rt: &impl Print, control: Control) -> io::Result<()> {
     match control {
-        Control::NoOp => show::text(b" no-op"),
-        Control::SenseIo => show::text(b" sense"),
-        Control::Initialize => show::text(b" initialize"),
-        Control::Clear => show::text(b" clear"),
-        Control::Block => show::text(b" block"),
-        Control::Allow => show::text(b" allow"),
-        Control::Select(slot) => show::count(b" select", slot as u64),
+        Control::NoOp => show::text(rt, b" no-op"),
+        Control::SenseIo => show::text(rt, b" sense"),
+        Control::Initialize => show::text(rt, b" initialize"),
+        Control::Clear => show::text(rt, b" clear"),
+        Control::Block => show::text(rt, b" block"),
+        Control::Allow => show::text(rt, b" allow"),
+        Control::Select(slot) => show::count(rt, b" select", slot as u64),
     }
 }
 
-fn load(load: Load) {
+fn load(rt: &impl Print, load: Load) -> io::Result<()> {
     match load {
-        Load::Fcb => show::text(b" load fcb"),
-        Load::TranslateTable => show::text(b" load table"),
-        Load::CopyModification => show::text(b" load copy modification"),
-        Load::OverlaySequence => show::text(b" load overlay sequence"),
-        Load::CopyNumber => show::text(b" load copy number"),
+        Load::Fcb => show::text(rt, b" load fcb"),
+        Load::TranslateTable => show::text(rt, b" load table"),
+        Load::CopyModification => show::text(rt, b" load copy modification"),
+        Load::OverlaySequence => show::text(rt, b" load overlay sequence"),
+        Load::CopyNumber => show::text(rt, b" load copy number"),
     }
 }
 
-fn command(byte: u8) {
+fn command(rt: &impl Print, byte: u8) -> io::Result<()> {
     let decoded = refusals::commands::decode(byte);
     if let Command::Unlisted = decoded {
-        return;
+        return Ok(());
     }
-    show::byte(b"command", byte);
+    show::byte(rt, b"command", byte)?;
     match decoded {
-        Command::Write(to) => motion(b" write", to),
-        Command::Move(to) => motion(b" move", to),
-        Command::Controls(which) => control(which),
-        Command::Loads(which) => load(which),
+        Command::Write(to) => motion(rt, b" write", to)?,
+        Command::Move(to) => motion(rt, b" move", to)?,
+        Command::Controls(which) => control(rt, which)?,
+        Command::Loads(which) => load(rt, which)?,
         Command::Unlisted => {}
     }
-    show::text(b"\n");
+    show::text(rt, b"\n")
 }
 
-pub fn commands() {
-    show::text(b"# command: its byte, and what it is for\n");
+pub fn commands(rt: &impl Print) -> io::Result<()> {
+    show::text(rt, b"# command: its byte, and what it is for\n")?;
     for n in 0usize..256 {
-        command((n % 256) as u8);
+        command(rt, (n % 256) as u8)?;
     }
+    Ok(())
 }

@@ -6,9 +6,11 @@ mod commands;
 mod rows;
 mod sizes;
 
-fn main() {
-    sizes::sizes();
-    sizes::places();
-    rows::rows();
-    commands::commands();
+use std::io;
+
+fn main(rt: HostRuntime) -> io::Result<()> {
+    sizes::sizes(&rt)?;
+    sizes::places(&rt)?;
+    rows::rows(&rt)?;
+    commands::commands(&rt)
 }

@@ -106,7 +106,7 @@ module _ (a : Asked) (m : Stores) (e : is_accepted (start_refusal a m) ≡ true)
       let h : HeldAlike x.after y.after = rw (f.after, g.after) d in
       record { answer = r; copies = λ n out. h.answers [] (compose n out); cells = λ n out. h.composes [] n out; after = h }
 
-  pairwise : {l k : List Noted} {b c : Kept} → b ≡ c → deeds_in l ≡ deeds_in k → answers_in l ≡ answers_in k → Told (start_world a) b l → Told (start_world a) c k
+  pairwise : {b c : Kept} {l k : List Noted} → b ≡ c → deeds_in l ≡ deeds_in k → answers_in l ≡ answers_in k → Told (start_world a) b l → Told (start_world a) c k
       → Pairwise l k
   pairwise p q r none none = done
   pairwise p q r none (next ys g t) = absurd (let h : ◌≡◌ {A = ℕ} 0 1 = cc in omega arith)

@@ -1,5 +1,5 @@
 -- What is past 0 is what is not 00, by blocks of either size.
-use Rattle.std.proofs.Common.{not, ap, ◌∙◌, arith, rules}
+use Rattle.std.proofs.Common.{not, ap, ◌∙◌, arith}
 use Rattle.seq.proofs.Loops.{none-past}
 use Rattle.seq.proofs.all_zero.Goals as goal
 

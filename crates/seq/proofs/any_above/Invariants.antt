@@ -1,8 +1,7 @@
 -- After i turns the first i are looked at, each by the difference that wraps.
-use Rattle.std.proofs.Common.{◌≡◌, ◌-◌, ◌≤◌, ◌||◌, length, get_or, take, refl, ◌∙◌, rules}
+use Rattle.std.proofs.Common.{◌≡◌, ◌-◌, ◌≤◌, length, take}
 use Rattle.seq.specs.Scan.{past}
 use Rattle.seq.specs.Words.{any}
-use Rattle.seq.proofs.Loops.{any-more, any-all, past_is}
 use Rattle.seq.proofs.any_above.Given as goal
 
 abbrev pub invariant-loop-i : goal.invariant-loop-i

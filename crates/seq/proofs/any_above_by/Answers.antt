@@ -1,5 +1,5 @@
 -- The blocks behind `at` have nothing past the limit. The last block begins among them, so that nothing is left out before it.
-use Rattle.std.proofs.Common.{◌≡◌, ◌-◌, ◌≤◌, false, length, take, sym, refl, ap, ◌∙◌, rules}
+use Rattle.std.proofs.Common.{◌-◌, ◌≤◌, length, sym, refl, ap, ◌∙◌, rules}
 use native.Mathlib.Nat.{add-sub_cancel_left}
 use Rattle.seq.specs.Scan.{past}
 use Rattle.seq.specs.Words.{any}

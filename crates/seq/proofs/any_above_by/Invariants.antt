@@ -1,10 +1,7 @@
 -- The blocks behind `at` have nothing past the limit. The last block begins among them, so that nothing is left out before it.
-use Rattle.std.proofs.Common.{◌≡◌, ◌-◌, ◌≤◌, false, length, take, sym, refl, ap, ◌∙◌, rules}
-use native.Mathlib.Nat.{add-sub_cancel_left}
+use Rattle.std.proofs.Common.{◌≡◌, ◌-◌, ◌≤◌, false, length, take}
 use Rattle.seq.specs.Scan.{past}
 use Rattle.seq.specs.Words.{any}
-use Rattle.seq.proofs.Laws.{take_rest}
-use Rattle.seq.proofs.Loops.{any-rest, any-fewer, any-block, any_here}
 use Rattle.seq.proofs.any_above_by.Given as goal
 
 abbrev pub invariant-loop-at : goal.invariant-loop-at

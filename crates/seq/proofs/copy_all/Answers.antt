@@ -1,6 +1,6 @@
 -- Turn i sets element i, so the first i are those of `from`.
-use Rattle.std.proofs.Common.{◌≡◌, ◌-◌, ◌≤◌, length, sym, refl, ◌∙◌, length-set, rules}
-use Rattle.seq.proofs.Loops.{filled, filled_none, filled_more, filled-all}
+use Rattle.std.proofs.Common.{sym, refl, ◌∙◌, length-set, rules}
+use Rattle.seq.proofs.Loops.{filled_none, filled_more, filled-all}
 use Rattle.seq.proofs.copy_all.Goals as goal
 
 pub loop-i-init : goal.loop-i-init

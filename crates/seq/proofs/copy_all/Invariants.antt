@@ -1,6 +1,6 @@
 -- Turn i sets element i, so the first i are those of `from`.
-use Rattle.std.proofs.Common.{◌≡◌, ◌-◌, ◌≤◌, length, sym, refl, ◌∙◌, length-set, rules}
-use Rattle.seq.proofs.Loops.{filled, filled_none, filled_more, filled-all}
+use Rattle.std.proofs.Common.{◌≡◌, ◌-◌, ◌≤◌, length}
+use Rattle.seq.proofs.Loops.{filled}
 use Rattle.seq.proofs.copy_all.Given as goal
 
 abbrev pub invariant-loop-i : goal.invariant-loop-i

@@ -1,7 +1,6 @@
 -- Turn i sets element i, so the first i are v.
-use Rattle.std.proofs.Common.{◌≡◌, ◌-◌, ◌≤◌, length, replicate, sym, refl, ◌∙◌, length-set, rules}
-use lib.ListN.{length-replicate, get_or-replicate}
-use Rattle.seq.proofs.Loops.{filled, filled_none, filled_more, filled-all}
+use Rattle.std.proofs.Common.{◌≡◌, ◌-◌, ◌≤◌, length, replicate}
+use Rattle.seq.proofs.Loops.{filled}
 use Rattle.seq.proofs.fill.Given as goal
 
 abbrev pub invariant-loop-i : goal.invariant-loop-i

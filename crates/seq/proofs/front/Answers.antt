@@ -1,6 +1,5 @@
 -- As many as asked for, or all there are.
 use native.Mathlib.Nat.{sub-zero}
-use Rattle.std.proofs.Common.{rules}
 use Rattle.seq.proofs.Laws.{take-least}
 use Rattle.seq.proofs.front.Goals as goal
 

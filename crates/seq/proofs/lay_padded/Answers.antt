@@ -1,5 +1,5 @@
 -- What is left of the zeros after the copied bytes is their padding.
-use Rattle.std.proofs.Common.{ℕ, ◌-◌, ◌++◌, length, drop, ap, ◌∙◌, rules}
+use Rattle.std.proofs.Common.{ℕ, ◌-◌, ◌++◌, length, drop, ap, ◌∙◌}
 use native.Mathlib.Nat.{sub-zero}
 use Rattle.seq.specs.Words.{zeros, padded}
 use Rattle.seq.proofs.Laws.{drop-replicate}

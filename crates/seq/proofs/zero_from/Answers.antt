@@ -1,5 +1,5 @@
 -- What is left from n on, nothing where n is beyond the end.
-use Rattle.std.proofs.Common.{ℕ, eqb, drop, ap, ◌∙◌, rules}
+use Rattle.std.proofs.Common.{ℕ, eqb, drop, ap, ◌∙◌}
 use Rattle.seq.specs.Words.{all}
 use Rattle.seq.proofs.Laws.{take_rest, drop-least}
 use Rattle.seq.proofs.zero_from.Goals as goal
