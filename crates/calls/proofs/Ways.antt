@@ -6,7 +6,6 @@ use mathlib.Core.List.{List, [], ◌∷◌}
 use native.Mathlib.Omega.{arith}
 use lib.ListN.{length}
 use borrow.Author.Tests.{not-true}
-use Rattle.seq.specs.Words.{every}
 use Rattle.seq.proofs.Laws.{and_right, every-at}
 use Rattle.numbers.specs.Numbers.{is_accepted}
 use Rattle.movement.specs.declared.Motion.{Motion}

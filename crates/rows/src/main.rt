@@ -1,6 +1,8 @@
 // Obeys a script, a line a call of the library, and prints each line with what it gave. The script says at its top how it is written.
 #![tactic(auto)]
 
+ghost use Rattle.std.specs.Prelude.{◌≤◌, length, IfOk};
+
 mod bench;
 
 use script::{show, stores, words};
@@ -35,12 +37,27 @@ fn run(rt: &impl Print, script: &[u8]) -> io::Result<()> {
     Ok(())
 }
 
-// No more than 65536 bytes are read: a script that has as many may be longer.
+// As much of the input as the buffer has room for: how many bytes.
+fn read_full(input: &mut impl Read, buffer: &mut [u8]) -> io::Result<usize>
+    ensures { IfOk result (λ n. n ≤ length buffer.new) }
+{
+    let mut n = 0;
+    while n < buffer.len() {
+        let got = input.read(&mut buffer[n..])?;
+        if got == 0 {
+            return Ok(n);
+        }
+        n += got;
+    }
+    Ok(n)
+}
+
+// A script that fills the buffer may be longer than it.
 fn main(rt: HostRuntime) -> io::Result<()> {
-    let mut script = Vec::new(rt.alloc());
-    rt.stdin().take(65536).read_to_end(&mut script)?;
-    if script.len() == 65536 {
+    let mut script = [0u8; 65536];
+    let n = read_full(&mut rt.stdin(), &mut script)?;
+    if n == 65536 {
         return show::text(&rt, b"The script is longer than 65535 bytes.\n");
     }
-    run(&rt, &script)
+    run(&rt, &script[..n])
 }

@@ -13,8 +13,7 @@ ghost use Rattle.state.specs.Host.{called, call_bytes, start_bytes, told, feet_t
 
 use counters::Tally;
 
-#[unsafe(no_mangle)]
-pub extern "C" fn trestlepip_start(
+pub fn trestlepip_start(
     form: u32,
     pitch0: u32,
     pitch1: u32,
@@ -35,8 +34,7 @@ pub extern "C" fn trestlepip_start(
     )
 }
 
-#[unsafe(no_mangle)]
-pub extern "C" fn trestlepip_command(
+pub fn trestlepip_command(
     byte: u8,
     sent: &[u8],
     reply: &mut [u8],
@@ -53,8 +51,7 @@ pub extern "C" fn trestlepip_command(
 }
 
 // The stores are only read.
-#[unsafe(no_mangle)]
-pub extern "C" fn trestlepip_compose(
+pub fn trestlepip_compose(
     copy: u32,
     out: &mut [u8],
     state: &[u8],
@@ -68,8 +65,7 @@ pub extern "C" fn trestlepip_compose(
     serve::compose(copy, out, state, page, legends, tables)
 }
 
-#[unsafe(no_mangle)]
-pub extern "C" fn trestlepip_release(
+pub fn trestlepip_release(
     state: &mut [u8],
     page: &mut [u8],
     legends: &mut [u8],
@@ -82,8 +78,7 @@ pub extern "C" fn trestlepip_release(
 }
 
 // A page passed the transfer station.
-#[unsafe(no_mangle)]
-pub extern "C" fn trestlepip_transferred(
+pub fn trestlepip_transferred(
     state: &mut [u8],
     page: &[u8],
     legends: &[u8],
@@ -96,8 +91,7 @@ pub extern "C" fn trestlepip_transferred(
 }
 
 // A page passed the fuser.
-#[unsafe(no_mangle)]
-pub extern "C" fn trestlepip_fused(
+pub fn trestlepip_fused(
     state: &mut [u8],
     page: &[u8],
     legends: &[u8],
@@ -110,8 +104,7 @@ pub extern "C" fn trestlepip_fused(
 }
 
 // A page came to the stacker.
-#[unsafe(no_mangle)]
-pub extern "C" fn trestlepip_stacked(
+pub fn trestlepip_stacked(
     state: &mut [u8],
     page: &[u8],
     legends: &[u8],
@@ -124,8 +117,7 @@ pub extern "C" fn trestlepip_stacked(
 }
 
 // Pages that have not passed transfer are given up.
-#[unsafe(no_mangle)]
-pub extern "C" fn trestlepip_cancel(
+pub fn trestlepip_cancel(
     state: &mut [u8],
     page: &[u8],
     legends: &[u8],
@@ -138,8 +130,7 @@ pub extern "C" fn trestlepip_cancel(
 }
 
 // Pages that are not stacked are given up.
-#[unsafe(no_mangle)]
-pub extern "C" fn trestlepip_restart(
+pub fn trestlepip_restart(
     state: &mut [u8],
     page: &[u8],
     legends: &[u8],
@@ -152,8 +143,7 @@ pub extern "C" fn trestlepip_restart(
 }
 
 // Feet of paper for a transmission. No store is lent.
-#[unsafe(no_mangle)]
-pub extern "C" fn trestlepip_feet(
+pub fn trestlepip_feet(
     initial: u16,
     last: u16,
     copies: u32,

@@ -1,8 +1,6 @@
 -- The answer is what was found so far, or what the pairs from i on show.
-use Rattle.std.proofs.Common.{◌≡◌, ◌-◌, ◌≤◌, ◌||◌, length, drop, sym, refl, ◌∙◌, rules}
+use Rattle.std.proofs.Common.{sym, refl, ◌∙◌, rules}
 use mathlib.Core.Bool.{or-false, or_assoc}
-use Rattle.seq.specs.Words.{any}
-use Rattle.copies.specs.Copies.{pairs_of, bad_pair}
 use Rattle.copies.proofs.CopiesLaws.{pairs-more, pairs-none}
 use Rattle.copies.proofs.any_bad_pair.Goals as goal
 

@@ -1,8 +1,7 @@
 -- The answer is what was found so far, or what the bytes from place i on show.
-use Rattle.std.proofs.Common.{◌≡◌, ◌-◌, ◌≤◌, ◌||◌, drop, sym, refl, ◌∙◌, drop_of_length-le, rules}
+use Rattle.std.proofs.Common.{sym, refl, ◌∙◌, drop_of_length-le, rules}
 use mathlib.Core.Bool.{or-false, or_assoc}
-use Rattle.copies.specs.Copies.{pair_size}
-use Rattle.copies.proofs.JudgeLaws.{loose, loose-more, loose_none, loose-is}
+use Rattle.copies.proofs.JudgeLaws.{loose-more, loose_none, loose-is}
 use Rattle.copies.proofs.any_loose.Goals as goal
 
 pub loop-i-init : goal.loop-i-init

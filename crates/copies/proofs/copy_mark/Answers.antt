@@ -1,5 +1,5 @@
 -- The sequence is the part of the bytes that is searched.
-use Rattle.std.proofs.Common.{◌∙◌, rules}
+use Rattle.std.proofs.Common.{◌∙◌}
 use Rattle.copies.proofs.copy_mark.Goals as goal
 
 pub returns : goal.returns

@@ -1,8 +1,6 @@
 -- The mark of copy k is that of copy `left` among the pairs from i on.
-use Rattle.std.proofs.Common.{◌≡◌, ◌-◌, ◌≤◌, length, get_or, drop, sym, refl, ◌∙◌, rules, le-leb}
-use borrow.Author.Tests.{lt-leb}
+use Rattle.std.proofs.Common.{◌≡◌, ◌-◌, ◌≤◌, length, drop}
 use Rattle.copies.specs.Copies.{pairs_of, mark_in}
-use Rattle.copies.proofs.CopiesLaws.{pairs-more, pairs-none}
 use Rattle.copies.proofs.mark_in.Given as goal
 
 abbrev pub invariant-loop-i : goal.invariant-loop-i

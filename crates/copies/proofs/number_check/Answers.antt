@@ -1,5 +1,5 @@
 -- Each return is one case of the length and of the byte.
-use Rattle.std.proofs.Common.{rules, eq-eqb, ne_eqb}
+use Rattle.std.proofs.Common.{eq-eqb, ne_eqb}
 use Rattle.seq.specs.Words.{when, first_or}
 use Rattle.copies.specs.Copies.{number_check}
 use Rattle.copies.proofs.number_check.Goals as goal

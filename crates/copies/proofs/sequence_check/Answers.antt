@@ -1,6 +1,5 @@
 -- Both tests in order. Whole pairs fit the array, so the sum of their copies does not wrap.
-use Rattle.std.proofs.Common.{◌≡◌, true, length, sym, ◌∙◌, rules}
-use borrow.Author.Tests.{not-true, not-false}
+use Rattle.std.proofs.Common.{◌≡◌, true, length, sym, ◌∙◌}
 use Rattle.seq.specs.Words.{when, first_or}
 use Rattle.copies.specs.Copies.{whole_pairs, sequence_check}
 use Rattle.copies.proofs.CopiesLaws.{pairs-fit}

@@ -1,5 +1,5 @@
 -- The copies are the sum so far and those of the pairs from i on; 255 a byte bound the sum.
-use Rattle.std.proofs.Common.{◌≡◌, ◌+◌, ◌-◌, ◌*◌, ◌≤◌, map, length, get_or, drop, refl, ap, arith, rules}
+use Rattle.std.proofs.Common.{◌≡◌, ◌+◌, map, get_or, drop, refl, ap, arith, rules}
 use Rattle.seq.specs.Words.{total}
 use Rattle.copies.specs.Copies.{copies_of}
 use Rattle.copies.proofs.CopiesLaws.{pairs-more, pairs-none}

@@ -5,7 +5,6 @@ use native.Mathlib.Omega.{arith}
 use lib.ListN.{length, drop, length-drop}
 use Rattle.seq.proofs.Laws.{take_rest}
 use Rattle.legends.proofs.SegmentLaws.{found, judged-none, judged-faulty, check-none, check-some}
-use borrow.Author.Rules.{rules}
 use Rattle.legends.proofs.legend_check.Goals as goal
 
 pub returns-then-n-eq0 : goal.returns-then-n-eq0

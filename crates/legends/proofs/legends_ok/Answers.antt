@@ -1,7 +1,6 @@
 -- Where the sound segments end, the legends do, and all that is left has to be 00.
 use mathlib.Core.Path.{sym, ◌∙◌}
 use Rattle.legends.proofs.StoredLaws.{ok_end}
-use borrow.Author.Rules.{rules}
 use Rattle.legends.proofs.legends_ok.Goals as goal
 
 pub returns : goal.returns

@@ -5,7 +5,6 @@ use lib.ListN.{length}
 use borrow.Author.Tests.{lt-ltb, le-ltb}
 use Rattle.seq.specs.Words.{first_or, when}
 use Rattle.legends.specs.Legends.{segment_length}
-use borrow.Author.Rules.{rules}
 use Rattle.legends.proofs.segment_check.Goals as goal
 
 pub returns-then-n-lt-HEAD_BYTES : goal.returns-then-n-lt-HEAD_BYTES

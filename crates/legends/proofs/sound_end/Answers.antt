@@ -1,10 +1,8 @@
 -- A sound segment changes neither what the tests find nor the legends' test, so each turn may leave it behind.
 use mathlib.Core.Path.{◌≡◌, refl, sym, ap, ◌∙◌}
 use mathlib.Core.Bool.{true}
-use mathlib.Core.List.{List}
-use Prim.Native.Nat.{ℕ, ◌≤◌, ◌-◌}
 use native.Mathlib.Omega.{arith}
-use lib.ListN.{length, drop}
+use lib.ListN.{drop}
 use borrow.Author.Rules.{rules}
 use Rattle.seq.proofs.Laws.{take_rest}
 use Rattle.numbers.specs.Numbers.{is_sound}

@@ -1,16 +1,9 @@
 -- A sound segment changes neither what the tests find nor the legends' test, so each turn may leave it behind.
-use mathlib.Core.Path.{◌≡◌, refl, sym, ap, ◌∙◌}
-use mathlib.Core.Bool.{true}
-use mathlib.Core.List.{List}
-use Prim.Native.Nat.{ℕ, ◌≤◌, ◌-◌}
-use native.Mathlib.Omega.{arith}
+use mathlib.Core.Path.{◌≡◌}
+use Prim.Native.Nat.{◌≤◌, ◌-◌}
 use lib.ListN.{length, drop}
-use borrow.Author.Rules.{rules}
-use Rattle.seq.proofs.Laws.{take_rest}
-use Rattle.numbers.specs.Numbers.{is_sound}
 use Rattle.legends.specs.Legends.{legends_ok}
-use Rattle.legends.proofs.SegmentLaws.{found, judged, SoundFirst, sound-first, six-at, end-at, rest_at, judged-sound}
-use Rattle.legends.proofs.StoredLaws.{ok-sound}
+use Rattle.legends.proofs.SegmentLaws.{judged}
 use Rattle.legends.proofs.sound_end.Given as goal
 
 abbrev pub invariant-loop-at : goal.invariant-loop-at

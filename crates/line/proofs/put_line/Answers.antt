@@ -1,7 +1,5 @@
 -- The definition's two cases.
-use mathlib.Core.Path.{refl}
 use mathlib.Core.Bool.{false}
-use borrow.Author.Rules.{rules}
 use Rattle.line.specs.Line.{cells_after}
 use Rattle.line.proofs.put_line.Goals as goal
 

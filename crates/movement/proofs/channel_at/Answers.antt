@@ -1,7 +1,6 @@
 -- Line n's byte is element n - 1.
 use mathlib.Core.Path.{refl}
 use Rattle.form.specs.Form.{channel_at}
-use borrow.Author.Rules.{rules}
 use Rattle.movement.proofs.channel_at.Goals as goal
 
 pub returns : goal.returns

@@ -1,7 +1,6 @@
 -- A space leads to no channel; a skip looks at that of the current line.
 use mathlib.Core.Path.{refl}
 use Rattle.movement.specs.Movement.{is_there}
-use borrow.Author.Rules.{rules}
 use Rattle.movement.proofs.is_there.Goals as goal
 
 pub returns-in-Space : goal.returns-in-Space

@@ -1,6 +1,5 @@
 -- The part from `top` to `top + lines` lies within the array, and the movement is that of its lines.
 use native.Mathlib.Nat.{add-sub_cancel_left}
-use borrow.Author.Rules.{rules}
 use Rattle.movement.proofs.move_form.Goals as goal
 
 pub returns : goal.returns

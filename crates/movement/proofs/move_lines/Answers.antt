@@ -1,6 +1,5 @@
 -- Each motion has its function.
 use Rattle.movement.specs.Movement.{moved}
-use borrow.Author.Rules.{rules}
 use Rattle.movement.proofs.move_lines.Goals as goal
 
 pub returns-in-Space : goal.returns-in-Space

@@ -1,5 +1,4 @@
 -- The test tells which of the two it is.
-use borrow.Author.Rules.{rules}
 use Rattle.movement.proofs.move_or_stand.Goals as goal
 
 pub returns-then-may-is_there : goal.returns-then-may-is_there

@@ -1,11 +1,9 @@
 -- The first `count` lines did not match, so the lines looked at are those and what the rest of the round adds.
-use mathlib.Core.Path.{◌≡◌, refl, sym, ◌∙◌}
-use Prim.Native.Nat.{◌+◌, ◌-◌, ◌≤◌}
-use lib.ListN.{length}
+use mathlib.Core.Path.{refl, sym, ◌∙◌}
 use native.Mathlib.Omega.{arith}
 use native.Mathlib.Nat.{zero-add}
 use borrow.Author.Rules.{rules}
-use Rattle.movement.proofs.WalkLaws.{looks, search-hit, search-miss, search-none}
+use Rattle.movement.proofs.WalkLaws.{search-hit, search-miss, search-none}
 use Rattle.movement.proofs.search.Goals as goal
 
 pub loop-count-init : goal.loop-count-init

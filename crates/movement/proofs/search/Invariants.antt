@@ -1,11 +1,8 @@
 -- The first `count` lines did not match, so the lines looked at are those and what the rest of the round adds.
-use mathlib.Core.Path.{◌≡◌, refl, sym, ◌∙◌}
+use mathlib.Core.Path.{◌≡◌}
 use Prim.Native.Nat.{◌+◌, ◌-◌, ◌≤◌}
 use lib.ListN.{length}
-use native.Mathlib.Omega.{arith}
-use native.Mathlib.Nat.{zero-add}
-use borrow.Author.Rules.{rules}
-use Rattle.movement.proofs.WalkLaws.{looks, search-hit, search-miss, search-none}
+use Rattle.movement.proofs.WalkLaws.{looks}
 use Rattle.movement.proofs.search.Given as goal
 
 abbrev pub invariant-loop-count : goal.invariant-loop-count

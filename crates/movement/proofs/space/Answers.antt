@@ -1,10 +1,7 @@
 -- What is left, added to the lines entered and the reports seen, is the whole space.
-use mathlib.Core.Path.{◌≡◌, refl, sym, ◌∙◌}
-use Prim.Native.Nat.{◌-◌, ◌≤◌}
-use lib.ListN.{length}
+use mathlib.Core.Path.{refl, sym, ◌∙◌}
 use borrow.Author.Rules.{rules}
-use Rattle.movement.specs.Movement.{spaced}
-use Rattle.movement.proofs.WalkLaws.{further, space-start, space-in, space-past, space-none}
+use Rattle.movement.proofs.WalkLaws.{space-start, space-in, space-past, space-none}
 use Rattle.movement.proofs.space.Goals as goal
 
 pub loop-k-init : goal.loop-k-init

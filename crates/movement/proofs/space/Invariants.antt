@@ -1,10 +1,9 @@
 -- What is left, added to the lines entered and the reports seen, is the whole space.
-use mathlib.Core.Path.{◌≡◌, refl, sym, ◌∙◌}
+use mathlib.Core.Path.{◌≡◌}
 use Prim.Native.Nat.{◌-◌, ◌≤◌}
 use lib.ListN.{length}
-use borrow.Author.Rules.{rules}
 use Rattle.movement.specs.Movement.{spaced}
-use Rattle.movement.proofs.WalkLaws.{further, space-start, space-in, space-past, space-none}
+use Rattle.movement.proofs.WalkLaws.{further}
 use Rattle.movement.proofs.space.Given as goal
 
 abbrev pub invariant-loop-k : goal.invariant-loop-k

@@ -1,6 +1,5 @@
 -- `is_bad` asks what 16 is for.
 use Rattle.paper.specs.Feet.{bad_paper}
-use borrow.Author.Rules.{rules}
 use Rattle.paper.proofs.is_bad.Goals as goal
 
 pub returns : goal.returns

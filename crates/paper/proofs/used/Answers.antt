@@ -3,7 +3,6 @@ use mathlib.Core.Path.{◌≡◌, sym, ◌∙◌}
 use mathlib.Core.Bool.{false}
 use native.Mathlib.Omega.{arith}
 use lib.Ieee.{of_bits}
-use borrow.Author.Rules.{rules}
 use Rattle.paper.specs.Feet.{sent, bad_paper, paper_used}
 use Rattle.paper.proofs.PaperLaws.{product-most}
 use Rattle.paper.proofs.used.Goals as goal

@@ -12,7 +12,6 @@ use Rattle.calls.specs.Start.{Asked, asked, start_refusal, start_world, no_state
 use Rattle.calls.proofs.Accepted.{startable}
 use Rattle.calls.proofs.Refused.{refused-start}
 use Rattle.state.specs.Host.{shown}
-use borrow.Author.Rules.{rules}
 use Rattle.serve.proofs.begin.Goals as goal
 
 accepted-start : (a : Asked) (m : Stores) → is_accepted (start_refusal a m) ≡ true

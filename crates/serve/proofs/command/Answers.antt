@@ -5,7 +5,6 @@ use borrow.Author.Tests.{not-true, not-false}
 use Rattle.calls.specs.Commands.{issued}
 use Rattle.calls.specs.Calls.{command}
 use Rattle.serve.proofs.Steps.{call-unsound, call-sound, call-room, judged}
-use borrow.Author.Rules.{rules}
 use Rattle.serve.proofs.command.Goals as goal
 
 pub returns-then-not-found : goal.returns-then-not-found

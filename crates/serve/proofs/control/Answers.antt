@@ -1,8 +1,7 @@
 -- A case each, by that control's own method, and what it can have changed put back.
 use mathlib.Core.Path.{refl, sym, ap, ◌∙◌}
 use mathlib.Core.Bool.{◌&&◌}
-use mathlib.Core.List.{List, []}
-use Prim.Native.Nat.{ℕ}
+use mathlib.Core.List.{[]}
 use native.Mathlib.Omega.{arith}
 use lib.Dec.{ltb}
 use lib.ListN.{length}
@@ -10,11 +9,10 @@ use borrow.Author.Tests.{ltb-false}
 use Rattle.numbers.specs.Sizes.{sense_size}
 use Rattle.calls.specs.declared.Control.{Control}
 use Rattle.calls.specs.declared.Control.TheVariants.{NoOp, SenseIo, Initialize, Clear, Block, Allow, Select}
-use Rattle.calls.specs.Core.{Stores, stores_of}
+use Rattle.calls.specs.Core.{stores_of}
 use Rattle.calls.specs.Commands.{control_traits}
 use Rattle.calls.specs.Effects.{do_control}
 use Rattle.serve.proofs.Put.{put_back, left_alone, own-sheet, same-arrays, sense-alone, clear-alone, block-leaves, allow-leaves, select-leaves}
-use borrow.Author.Rules.{rules}
 use Rattle.serve.proofs.control.Goals as goal
 
 pub sense_io-requires : goal.sense_io-requires

@@ -8,10 +8,10 @@ use Rattle.numbers.proofs.Laws.{accepted-is}
 use Rattle.copies.specs.Copies.{copy_count}
 use Rattle.copies.proofs.CopiesLaws.{few-copies}
 use Rattle.calls.specs.declared.State.{State}
-use Rattle.calls.specs.Core.{Stores, World, stores_of, laid_out}
+use Rattle.calls.specs.Core.{stores_of, laid_out}
 use Rattle.calls.specs.Contents.{core_ok}
 use Rattle.calls.specs.Effects.{refused}
-use Rattle.calls.specs.Calls.{Call, Outcome, compose, compose_tests, refusal_of, do_compose, perform}
+use Rattle.calls.specs.Calls.{Outcome, compose, compose_tests, refusal_of, do_compose, perform}
 use Rattle.calls.specs.Premises.{Composable}
 use Rattle.calls.proofs.Accepted.{composable}
 use Rattle.calls.proofs.Good.{form-lines}
@@ -23,7 +23,6 @@ use Rattle.state.proofs.Sound.{sound-good}
 use Rattle.serve.proofs.Put.{left_alone}
 use Rattle.serve.proofs.Good.{judged-good, judged-fit}
 use Rattle.serve.proofs.Steps.{step-accepted, step-refused}
-use borrow.Author.Rules.{rules}
 use Rattle.serve.proofs.copy_page.Goals as goal
 
 pub compose-step-requires : goal.compose-step-requires
@@ -36,11 +35,15 @@ compose-step-requires c = let k = (let it : Composable (world_at c.args.state.no
     (record {
       fit = judged-fit c.requires;
       low = k.low;
-      high = (let it : c.args.copy ≤ 255 = omega (arith, (let it : Composable (world_at c.args.state.now (stores_of c.args.page.now c.args.legends.now c.args.tables.now)).core c.args.copy c.args.out.now = composable _ _ _ (sym (let it : c.compose_refusal-refusal.result ≡ refusal_of (world_at c.args.state.now (stores_of c.args.page.now c.args.legends.now c.args.tables.now)).core (compose c.args.copy c.args.out.now) = let m = (stores_of c.args.page.now c.args.legends.now c.args.tables.now) in
-    let e = ap (λ (p : Printer). p.state) c.decode-p.ensures in
-    c.compose_refusal-refusal.ensures m (c.requires.layout ∙ ap (λ (t : State). laid_out t) (sym e))
-    (ap (λ (t : State). core_ok (record { state = t; stores = m })) e ∙ sound-good _ _ c.requires.sound)
-    ∙ ap (λ (t : State). first_or Accepted (compose_tests (record { state = t; stores = m }) c.args.copy c.args.out.now)) e in it) ∙ accepted-is _ (sym c.is_accepted.ensures ∙ c.if-is_accepted.true)) in it).high, few-copies _ (judged-good c.requires).copies.sound) in it);
+      high = (let it : c.args.copy ≤ 255 = omega (
+        arith,
+        (let it : Composable (world_at c.args.state.now (stores_of c.args.page.now c.args.legends.now c.args.tables.now)).core c.args.copy c.args.out.now = composable _ _ _ (sym (let it : c.compose_refusal-refusal.result ≡ refusal_of (world_at c.args.state.now (stores_of c.args.page.now c.args.legends.now c.args.tables.now)).core (compose c.args.copy c.args.out.now) = let m = (stores_of c.args.page.now c.args.legends.now c.args.tables.now) in
+            let e = ap (λ (p : Printer). p.state) c.decode-p.ensures in
+            c.compose_refusal-refusal.ensures m (c.requires.layout ∙ ap (λ (t : State). laid_out t) (sym e))
+            (ap (λ (t : State). core_ok (record { state = t; stores = m })) e ∙ sound-good _ _ c.requires.sound)
+            ∙ ap (λ (t : State). first_or Accepted (compose_tests (record { state = t; stores = m }) c.args.copy c.args.out.now)) e in it) ∙ accepted-is _ (sym c.is_accepted.ensures ∙ c.if-is_accepted.true)) in it).high,
+        few-copies _ (judged-good c.requires).copies.sound,
+      ) in it);
       room = rw (form-lines (state_at c.args.state.now) _ c.requires.layout) k.room;
       page = g.sizes.page;
       legends = g.legends;
@@ -70,8 +73,15 @@ returns c = let o = step-refused (world_at c.args.state.now (stores_of c.args.pa
 
 pub overflow_cast-copy : goal.overflow_cast-copy
 unfolding copy_count refusal_of
-overflow_cast-copy c = omega (arith, (let it : c.args.copy ≤ 255 = omega (arith, (let it : Composable (world_at c.args.state.now (stores_of c.args.page.now c.args.legends.now c.args.tables.now)).core c.args.copy c.args.out.now = composable _ _ _ (sym (let it : c.compose_refusal-refusal.result ≡ refusal_of (world_at c.args.state.now (stores_of c.args.page.now c.args.legends.now c.args.tables.now)).core (compose c.args.copy c.args.out.now) = let m = (stores_of c.args.page.now c.args.legends.now c.args.tables.now) in
-    let e = ap (λ (p : Printer). p.state) c.decode-p.ensures in
-    c.compose_refusal-refusal.ensures m (c.requires.layout ∙ ap (λ (t : State). laid_out t) (sym e))
-    (ap (λ (t : State). core_ok (record { state = t; stores = m })) e ∙ sound-good _ _ c.requires.sound)
-    ∙ ap (λ (t : State). first_or Accepted (compose_tests (record { state = t; stores = m }) c.args.copy c.args.out.now)) e in it) ∙ accepted-is _ (sym c.is_accepted.ensures ∙ c.if-is_accepted.true)) in it).high, few-copies _ (judged-good c.requires).copies.sound) in it))
+overflow_cast-copy c = omega (
+  arith,
+  (let it : c.args.copy ≤ 255 = omega (
+    arith,
+    (let it : Composable (world_at c.args.state.now (stores_of c.args.page.now c.args.legends.now c.args.tables.now)).core c.args.copy c.args.out.now = composable _ _ _ (sym (let it : c.compose_refusal-refusal.result ≡ refusal_of (world_at c.args.state.now (stores_of c.args.page.now c.args.legends.now c.args.tables.now)).core (compose c.args.copy c.args.out.now) = let m = (stores_of c.args.page.now c.args.legends.now c.args.tables.now) in
+        let e = ap (λ (p : Printer). p.state) c.decode-p.ensures in
+        c.compose_refusal-refusal.ensures m (c.requires.layout ∙ ap (λ (t : State). laid_out t) (sym e))
+        (ap (λ (t : State). core_ok (record { state = t; stores = m })) e ∙ sound-good _ _ c.requires.sound)
+        ∙ ap (λ (t : State). first_or Accepted (compose_tests (record { state = t; stores = m }) c.args.copy c.args.out.now)) e in it) ∙ accepted-is _ (sym c.is_accepted.ensures ∙ c.if-is_accepted.true)) in it).high,
+    few-copies _ (judged-good c.requires).copies.sound,
+  ) in it),
+)

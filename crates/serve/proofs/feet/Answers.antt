@@ -1,5 +1,4 @@
 -- `feet` tells what is answered, and leaves the feet in the lent double.
-use borrow.Author.Rules.{rules}
 use Rattle.state.specs.Host.{feet_told}
 use Rattle.serve.proofs.feet.Goals as goal
 

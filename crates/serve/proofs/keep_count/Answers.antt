@@ -1,11 +1,9 @@
 -- Accepted or refused, as the definition has it.
-use mathlib.Core.Path.{◌≡◌, refl, sym, ap, ◌∙◌}
-use mathlib.Core.Bool.{true}
+use mathlib.Core.Path.{refl, sym, ap, ◌∙◌}
 use mathlib.Core.List.{[]}
 use native.Mathlib.Omega.{arith}
 use Rattle.numbers.specs.Numbers.{is_accepted}
-use Rattle.calls.specs.Core.{Stores, World, stores_of}
-use Rattle.calls.specs.Contents.{core_ok}
+use Rattle.calls.specs.Core.{stores_of}
 use Rattle.calls.specs.Effects.{refused}
 use Rattle.calls.specs.Calls.{tally, refusal_of, do_tally, perform, Outcome}
 use Rattle.calls.proofs.Refused.{tally-keeps}
@@ -14,7 +12,6 @@ use Rattle.state.specs.State.{world_at}
 use Rattle.state.specs.Host.{shown}
 use Rattle.serve.proofs.Put.{put_back, left_alone, own-counters, tally-alone}
 use Rattle.serve.proofs.Steps.{step-accepted, step-refused}
-use borrow.Author.Rules.{rules}
 use Rattle.serve.proofs.keep_count.Goals as goal
 
 pub put_counters-requires : goal.put_counters-requires

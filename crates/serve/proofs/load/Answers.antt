@@ -13,11 +13,10 @@ use Rattle.copies.specs.Copies.{number_check}
 use Rattle.copies.proofs.CopiesLaws.{table-long, sequence-fits}
 use Rattle.calls.specs.declared.Load.{Load}
 use Rattle.calls.specs.declared.Load.TheVariants.{Fcb, TranslateTable, CopyModification, OverlaySequence, CopyNumber}
-use Rattle.calls.specs.Core.{Stores, Core, stores_of}
-use Rattle.calls.specs.Effects.{Effect, load_check, do_load}
+use Rattle.calls.specs.Core.{stores_of}
+use Rattle.calls.specs.Effects.{load_check, do_load}
 use Rattle.state.specs.State.{state_at}
 use Rattle.serve.proofs.Put.{put_back, same-arrays, table-leaves, legends-leave, number-leaves}
-use borrow.Author.Rules.{rules}
 use Rattle.serve.proofs.load.Goals as goal
 
 one_byte : (r : List ℕ) → number_check r ≡ Sound → 1 ≤ length r

@@ -3,7 +3,6 @@ use mathlib.Core.List.{[]}
 use Rattle.calls.specs.Core.{stores_of}
 use Rattle.calls.specs.Effects.{do_move}
 use Rattle.serve.proofs.Put.{put_back, own-sheet, move-alone}
-use borrow.Author.Rules.{rules}
 use Rattle.serve.proofs.move_on.Goals as goal
 
 pub put_sheet-requires : goal.put_sheet-requires

@@ -1,5 +1,5 @@
 -- Accepted or refused, as the definition has it.
-use Prim.Native.Nat.{ℕ, ◌≤◌}
+use Prim.Native.Nat.{◌≤◌}
 use mathlib.Core.Path.{◌≡◌, refl, sym, ap, ◌∙◌}
 use mathlib.Core.Bool.{Bool, cond}
 use lib.ListN.{length}
@@ -9,8 +9,8 @@ use Rattle.numbers.specs.Sizes.{legend_size}
 use Rattle.numbers.specs.declared.Refusal.TheVariants.{Accepted}
 use Rattle.numbers.proofs.Laws.{accepted-is, row_same}
 use Rattle.calls.specs.declared.Command.{Command}
-use Rattle.calls.specs.Core.{Stores, Core, stores_of}
-use Rattle.calls.specs.Commands.{Issued, issued}
+use Rattle.calls.specs.Core.{stores_of}
+use Rattle.calls.specs.Commands.{issued}
 use Rattle.calls.specs.Effects.{do_command}
 use Rattle.calls.specs.Calls.{command, command_tests, refusal_of, perform, outcome_of}
 use Rattle.calls.proofs.Accepted.{check-fits}
@@ -18,7 +18,6 @@ use Rattle.state.specs.State.{sense_at, core_at, world_at}
 use Rattle.state.specs.Host.{shown}
 use Rattle.state.proofs.Sound.{sound-good}
 use Rattle.serve.proofs.Steps.{step-accepted, step-refused}
-use borrow.Author.Rules.{rules}
 use Rattle.serve.proofs.obey.Goals as goal
 
 pub perform-requires : goal.perform-requires

@@ -9,8 +9,8 @@ use Rattle.seq.proofs.Laws.{or_right}
 use Rattle.numbers.specs.Sizes.{line_width, legend_size, sense_size}
 use Rattle.numbers.specs.Numbers.{row_of}
 use Rattle.calls.specs.declared.Command.{Command}
-use Rattle.calls.specs.Core.{Stores, stores_of}
-use Rattle.calls.specs.Commands.{Issued, issued, traits_of}
+use Rattle.calls.specs.Core.{stores_of}
+use Rattle.calls.specs.Commands.{issued, traits_of}
 use Rattle.calls.specs.Effects.{refused, do_command}
 use Rattle.calls.specs.Calls.{bad_record, check_of}
 use Rattle.calls.specs.Premises.{Allowed, Good}
@@ -18,7 +18,6 @@ use Rattle.calls.proofs.Accepted.{allowed-by}
 use Rattle.state.specs.State.{state_at, core_at}
 use Rattle.serve.specs.Served.{Judged}
 use Rattle.serve.proofs.Good.{judged-good, judged-fit}
-use borrow.Author.Rules.{rules}
 use Rattle.serve.proofs.perform.Goals as goal
 
 pub write-requires : goal.write-requires

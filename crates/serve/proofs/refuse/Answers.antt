@@ -3,7 +3,6 @@ use mathlib.Core.List.{[]}
 use Rattle.calls.specs.Core.{stores_of}
 use Rattle.calls.specs.Effects.{refused}
 use Rattle.serve.proofs.Put.{put_back, own-sheet, refused-alone}
-use borrow.Author.Rules.{rules}
 use Rattle.serve.proofs.refuse.Goals as goal
 
 pub put_sheet-requires : goal.put_sheet-requires

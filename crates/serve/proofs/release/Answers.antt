@@ -4,7 +4,6 @@ use native.Mathlib.Omega.{arith}
 use borrow.Author.Tests.{not-true, not-false}
 use Rattle.calls.specs.Calls.{release}
 use Rattle.serve.proofs.Steps.{call-unsound, call-sound, call-room, judged}
-use borrow.Author.Rules.{rules}
 use Rattle.serve.proofs.release.Goals as goal
 
 pub returns-then-not-found : goal.returns-then-not-found

@@ -6,7 +6,7 @@ use Rattle.seq.specs.Words.{first_or}
 use Rattle.numbers.specs.declared.Refusal.TheVariants.{Accepted}
 use Rattle.numbers.specs.Numbers.{is_accepted}
 use Rattle.calls.specs.declared.State.{State}
-use Rattle.calls.specs.Core.{Stores, World, stores_of}
+use Rattle.calls.specs.Core.{stores_of}
 use Rattle.calls.specs.Contents.{core_ok}
 use Rattle.calls.specs.Effects.{refused}
 use Rattle.calls.specs.Calls.{release, release_tests, refusal_of, do_release, perform, Outcome}
@@ -18,7 +18,6 @@ use Rattle.state.proofs.Sound.{sound-good}
 use Rattle.serve.proofs.Put.{put_back, left_alone}
 use Rattle.serve.proofs.Good.{judged-good}
 use Rattle.serve.proofs.Steps.{step-accepted, step-refused}
-use borrow.Author.Rules.{rules}
 use Rattle.serve.proofs.release_page.Goals as goal
 
 pub release-requires : goal.release-requires

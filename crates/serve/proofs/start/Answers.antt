@@ -1,7 +1,6 @@
 -- Begun, or refused with 9 for want of room.
 use borrow.Author.Tests.{ne_eqb}
 use Rattle.serve.proofs.Steps.{start-with-room, start-room, start-without-room}
-use borrow.Author.Rules.{rules}
 use Rattle.serve.proofs.start.Goals as goal
 
 pub pack-requires : goal.pack-requires

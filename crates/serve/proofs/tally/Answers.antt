@@ -8,7 +8,6 @@ use Rattle.calls.specs.Calls.{tally}
 use Rattle.state.specs.Contents.{sound_bytes}
 use Rattle.state.proofs.Sound.{sound-good}
 use Rattle.serve.proofs.Steps.{call-unsound, call-sound, call-room, judged}
-use borrow.Author.Rules.{rules}
 use Rattle.serve.proofs.tally.Goals as goal
 
 pub returns-then-not-found : goal.returns-then-not-found

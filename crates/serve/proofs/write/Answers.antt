@@ -3,7 +3,6 @@ use mathlib.Core.List.{[]}
 use Rattle.calls.specs.Core.{stores_of}
 use Rattle.calls.specs.Effects.{do_write}
 use Rattle.serve.proofs.Put.{put_back, own-sheet, write_alone}
-use borrow.Author.Rules.{rules}
 use Rattle.serve.proofs.write.Goals as goal
 
 pub put_sheet-requires : goal.put_sheet-requires

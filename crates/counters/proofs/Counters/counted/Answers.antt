@@ -1,5 +1,4 @@
 -- `Counters::counted`: one counter is counted on by `next`.
-use Rattle.std.proofs.Common.{rules}
 use Rattle.counters.specs.Counters.{counted}
 use Rattle.counters.proofs.Counters.counted.Goals as goal
 

@@ -1,5 +1,4 @@
 -- `Counters::fused`: one counter is counted on by `next`.
-use Rattle.std.proofs.Common.{rules}
 use Rattle.counters.specs.Counters.{fused}
 use Rattle.counters.proofs.Counters.fused.Goals as goal
 

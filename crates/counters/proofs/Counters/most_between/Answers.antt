@@ -1,5 +1,4 @@
 -- `Counters::most_between`: the pages between channel and stacker against the most.
-use Rattle.std.proofs.Common.{rules}
 use Rattle.counters.proofs.Counters.most_between.Goals as goal
 
 pub returns : goal.returns

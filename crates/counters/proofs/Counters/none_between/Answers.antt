@@ -1,5 +1,4 @@
 -- `Counters::none_between`: a variant at a time, its own test.
-use Rattle.std.proofs.Common.{rules}
 use Rattle.counters.specs.Counters.{none_between}
 use Rattle.counters.proofs.Counters.none_between.Goals as goal
 

@@ -1,5 +1,4 @@
 -- `Counters::stacked`: one counter is counted on by `next`.
-use Rattle.std.proofs.Common.{rules}
 use Rattle.counters.specs.Counters.{stacked}
 use Rattle.counters.proofs.Counters.stacked.Goals as goal
 

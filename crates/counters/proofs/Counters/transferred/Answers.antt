@@ -1,5 +1,4 @@
 -- `Counters::transferred`: one counter is counted on by `next`.
-use Rattle.std.proofs.Common.{rules}
 use Rattle.counters.specs.Counters.{transferred}
 use Rattle.counters.proofs.Counters.transferred.Goals as goal
 

@@ -1,5 +1,4 @@
 -- `lending::tally`: a case each, as `tallied` has them.
-use Rattle.std.proofs.Common.{rules}
 use Rattle.counters.specs.Counters.{tallied}
 use Rattle.counters.proofs.lending.tally.Goals as goal
 

@@ -1,10 +1,8 @@
 -- After i turns the first i are looked at.
-use mathlib.Core.Path.{◌≡◌, refl, ap, ◌∙◌}
+use mathlib.Core.Path.{refl, ap, ◌∙◌}
 use mathlib.Core.Bool.{Bool, ◌||◌}
-use Prim.Native.Nat.{◌≤◌, ◌-◌}
-use lib.ListN.{length, get_or, take}
+use lib.ListN.{get_or}
 use borrow.Author.Rules.{rules}
-use Rattle.seq.specs.Words.{any}
 use Rattle.seq.proofs.Loops.{any-more, any-all}
 use Rattle.form.specs.Form.{has_channel}
 use Rattle.form.proofs.fcb.any_channel.Goals as goal

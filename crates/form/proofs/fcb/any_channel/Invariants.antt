@@ -1,11 +1,8 @@
 -- After i turns the first i are looked at.
-use mathlib.Core.Path.{◌≡◌, refl, ap, ◌∙◌}
-use mathlib.Core.Bool.{Bool, ◌||◌}
+use mathlib.Core.Path.{◌≡◌}
 use Prim.Native.Nat.{◌≤◌, ◌-◌}
-use lib.ListN.{length, get_or, take}
-use borrow.Author.Rules.{rules}
+use lib.ListN.{length, take}
 use Rattle.seq.specs.Words.{any}
-use Rattle.seq.proofs.Loops.{any-more, any-all}
 use Rattle.form.specs.Form.{has_channel}
 use Rattle.form.proofs.fcb.any_channel.Given as goal
 

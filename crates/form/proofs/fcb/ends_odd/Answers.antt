@@ -1,5 +1,4 @@
 -- `ends_odd` asks where a run ends, and only there.
-use borrow.Author.Rules.{rules}
 use Rattle.form.proofs.fcb.ends_odd.Goals as goal
 
 pub returns-then-change : goal.returns-then-change

@@ -2,7 +2,6 @@
 use mathlib.Core.Path.{ap, ◌∙◌}
 use Rattle.form.specs.Form.{layout_check}
 use Rattle.form.proofs.LayoutLaws.{layout-check}
-use borrow.Author.Rules.{rules}
 use Rattle.form.proofs.fcb.fcb_check.Goals as goal
 
 pub returns : goal.returns

@@ -2,7 +2,6 @@
 use mathlib.Core.Bool.{and-true}
 use Rattle.seq.specs.Words.{every}
 use Rattle.form.specs.Form.{form_ok, pitches_ok}
-use borrow.Author.Rules.{rules}
 use Rattle.form.proofs.fcb.form_ok.Goals as goal
 
 pub returns : goal.returns

@@ -1,10 +1,8 @@
 -- The count, the room, the sum, and what the scans find: law `uniform-tests`.
-use Prim.Native.Nat.{ℕ, ◌≤◌}
 use mathlib.Core.Path.{refl}
 use mathlib.Core.Bool.{and-false}
-use native.Mathlib.Nat.{mul-le-mul_right, sub-zero}
+use native.Mathlib.Nat.{sub-zero}
 use native.Mathlib.Omega.{arith}
-use lib.ListN.{get_or}
 use lib.Seq.{length-take-le}
 use borrow.Author.Tests.{lt-leb, eq-eqb, ne_eqb}
 use borrow.Author.Rules.{rules}

@@ -1,10 +1,7 @@
 -- Either way what the definitions say; of one spacing, it is in range too.
-use mathlib.Core.Path.{◌≡◌, sym, ◌∙◌}
-use mathlib.Core.Bool.{Bool, true, ◌&&◌}
+use mathlib.Core.Path.{sym, ◌∙◌}
 use native.Mathlib.Omega.{arith}
 use lib.ListN.{take, length-take}
-use borrow.Author.Tests.{not-false}
-use borrow.Author.Rules.{rules}
 use Rattle.seq.proofs.Laws.{and_left, and_right}
 use Rattle.form.specs.Form.{forms_in_range}
 use Rattle.form.specs.Pass.{uniform}

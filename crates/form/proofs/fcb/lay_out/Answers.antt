@@ -1,11 +1,10 @@
 -- What the pass has found, joined with what is left, is the layout of all.
-use mathlib.Core.Path.{◌≡◌, sym, ap, ◌∙◌}
-use Prim.Native.Nat.{suc, ◌*◌, ◌≤◌, ◌-◌}
+use mathlib.Core.Path.{sym, ap, ◌∙◌}
+use Prim.Native.Nat.{suc}
 use native.Mathlib.Numerals.{add-one}
 use borrow.Author.Rules.{rules}
-use lib.ListN.{length, get_or, drop, drop_of_length-le}
+use lib.ListN.{get_or, drop, drop_of_length-le}
 use lib.Seq.{drop-cons}
-use Rattle.form.specs.Form.{most_units, layout_of}
 use Rattle.form.specs.Pass.{start}
 use Rattle.form.proofs.LayoutLaws.{joined, joined-start, joined_step, joined_end}
 use Rattle.form.proofs.fcb.lay_out.Goals as goal

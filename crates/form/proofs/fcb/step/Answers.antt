@@ -6,6 +6,6 @@ use Rattle.form.proofs.fcb.step.Goals as goal
 pub returns : goal.returns
 unfolding step_of
 returns c = (
-      simp (c.units-n.ensures.0, c.ends_odd-odd.ensures, c.flag.ensures.0, c.flag-2.ensures.0),
-      (search rules, (search rules, search rules)),
-    )
+  simp (c.units-n.ensures.0, c.ends_odd-odd.ensures, c.flag.ensures.0, c.flag-2.ensures.0),
+  (search rules, (search rules, search rules)),
+)

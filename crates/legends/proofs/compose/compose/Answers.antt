@@ -1,7 +1,6 @@
 -- The copy is made in the first bytes of the output, so those after it stay.
 use native.Mathlib.Nat.{sub-zero}
 use Rattle.legends.specs.Legends.{composed}
-use borrow.Author.Rules.{rules}
 use Rattle.legends.proofs.compose.compose.Goals as goal
 
 pub returns : goal.returns

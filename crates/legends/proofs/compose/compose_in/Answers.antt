@@ -3,7 +3,6 @@ use mathlib.Core.Path.{refl, sym, ap, ◌∙◌}
 use Prim.Native.Nat.{◌*◌}
 use native.Mathlib.Omega.{arith}
 use lib.ListN.{length}
-use borrow.Author.Rules.{rules}
 use Rattle.numbers.specs.Sizes.{line_width}
 use Rattle.line.specs.Cells.{stored}
 use Rattle.line.proofs.StoredLaws.{stored-cells}

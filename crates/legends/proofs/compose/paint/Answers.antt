@@ -19,14 +19,20 @@ returns-then-first-copies c = let a = c.args in
     other-segment a.legends.now a.at a.number (cells_in a.out.now) (λ h. omega (arith, h))
 
 pub overflow_sub-row : goal.overflow_sub-row
-overflow_sub-row c = omega (arith, (let it : Placed c.args.legends.now c.args.at = let s = drop c.args.at c.args.legends.now in
-    let w : SoundFirst s = record { head = search rules; size = rw (length-drop c.args.at c.args.legends.now) (search rules) } in
-    placed c.args.legends.now c.args.at w in it))
+overflow_sub-row c = omega (
+  arith,
+  (let it : Placed c.args.legends.now c.args.at = let s = drop c.args.at c.args.legends.now in
+      let w : SoundFirst s = record { head = search rules; size = rw (length-drop c.args.at c.args.legends.now) (search rules) } in
+      placed c.args.legends.now c.args.at w in it),
+)
 
 pub overflow_sub-place : goal.overflow_sub-place
-overflow_sub-place c = omega (arith, (let it : Placed c.args.legends.now c.args.at = let s = drop c.args.at c.args.legends.now in
-    let w : SoundFirst s = record { head = search rules; size = rw (length-drop c.args.at c.args.legends.now) (search rules) } in
-    placed c.args.legends.now c.args.at w in it))
+overflow_sub-place c = omega (
+  arith,
+  (let it : Placed c.args.legends.now c.args.at = let s = drop c.args.at c.args.legends.now in
+      let w : SoundFirst s = record { head = search rules; size = rw (length-drop c.args.at c.args.legends.now) (search rules) } in
+      placed c.args.legends.now c.args.at w in it),
+)
 
 pub text-requires : goal.text-requires
 text-requires c = (let it : Placed c.args.legends.now c.args.at = let s = drop c.args.at c.args.legends.now in
@@ -37,9 +43,16 @@ pub paint_rows-requires : goal.paint_rows-requires
 paint_rows-requires c = let n = ap length c.text.ensures ∙ length-text c.args.legends.now c.args.at (let it : Placed c.args.legends.now c.args.at = let s = drop c.args.at c.args.legends.now in
     let w : SoundFirst s = record { head = search rules; size = rw (length-drop c.args.at c.args.legends.now) (search rules) } in
     placed c.args.legends.now c.args.at w in it) in
-    record { end_in_bounds = search rules; text_bound = omega (arith, (let it : Placed c.args.legends.now c.args.at = let s = drop c.args.at c.args.legends.now in
-    let w : SoundFirst s = record { head = search rules; size = rw (length-drop c.args.at c.args.legends.now) (search rules) } in
-    placed c.args.legends.now c.args.at w in it), n) }
+    record {
+      end_in_bounds = search rules;
+      text_bound = omega (
+        arith,
+        (let it : Placed c.args.legends.now c.args.at = let s = drop c.args.at c.args.legends.now in
+            let w : SoundFirst s = record { head = search rules; size = rw (length-drop c.args.at c.args.legends.now) (search rules) } in
+            placed c.args.legends.now c.args.at w in it),
+        n,
+      );
+    }
 
 pub returns : goal.returns
 returns c = let a = c.args in

@@ -1,14 +1,13 @@
 -- Each turn paints one segment; those from `at` on are left. Legends that a printer can have are sound segments.
-use mathlib.Core.Path.{◌≡◌, refl, ◌∙◌}
-use mathlib.Core.List.{List, map}
-use Prim.Native.Nat.{ℕ, ◌≤◌, ◌+◌, ◌-◌}
+use mathlib.Core.Path.{refl, ◌∙◌}
+use Prim.Native.Nat.{◌≤◌, ◌+◌}
 use native.Mathlib.Omega.{arith}
 use lib.ListN.{length, drop, get_or-eq_default}
 use borrow.Author.Rules.{rules}
 use Rattle.line.specs.Cells.{cells_in}
-use Rattle.legends.specs.Legends.{segment_of, segment_length, stored_segments, copy_from}
+use Rattle.legends.specs.Legends.{segment_length}
 use Rattle.legends.proofs.SegmentLaws.{SoundFirst, end-at}
-use Rattle.legends.proofs.ComposeLaws.{Left, left-start, left_here, left_step, left_end}
+use Rattle.legends.proofs.ComposeLaws.{left-start, left_here, left_step, left_end}
 use Rattle.legends.proofs.compose.paint_all.Goals as goal
 
 pub loop-at-init : goal.loop-at-init

@@ -1,14 +1,11 @@
 -- Each turn paints one segment; those from `at` on are left. Legends that a printer can have are sound segments.
-use mathlib.Core.Path.{◌≡◌, refl, ◌∙◌}
-use mathlib.Core.List.{List, map}
-use Prim.Native.Nat.{ℕ, ◌≤◌, ◌+◌, ◌-◌}
-use native.Mathlib.Omega.{arith}
-use lib.ListN.{length, drop, get_or-eq_default}
-use borrow.Author.Rules.{rules}
+use mathlib.Core.Path.{◌≡◌}
+use mathlib.Core.List.{map}
+use Prim.Native.Nat.{◌≤◌, ◌-◌}
+use lib.ListN.{length}
 use Rattle.line.specs.Cells.{cells_in}
-use Rattle.legends.specs.Legends.{segment_of, segment_length, stored_segments, copy_from}
-use Rattle.legends.proofs.SegmentLaws.{SoundFirst, end-at}
-use Rattle.legends.proofs.ComposeLaws.{Left, left-start, left_here, left_step, left_end}
+use Rattle.legends.specs.Legends.{segment_of, stored_segments, copy_from}
+use Rattle.legends.proofs.ComposeLaws.{Left}
 use Rattle.legends.proofs.compose.paint_all.Given as goal
 
 abbrev pub invariant-loop-at : goal.invariant-loop-at

@@ -1,14 +1,11 @@
 -- Each turn paints the text into one row more.
-use mathlib.Core.Path.{◌≡◌, refl, ◌∙◌}
+use mathlib.Core.Path.{◌≡◌}
 use mathlib.Core.List.{[], ◌∷◌}
 use Prim.Native.Nat.{◌≤◌, ◌-◌}
-use native.Mathlib.Nat.{add-sub_cancel_left}
-use native.Mathlib.Omega.{arith}
 use lib.ListN.{length}
-use borrow.Author.Rules.{rules}
 use Rattle.line.specs.Cells.{cells_in}
 use Rattle.legends.specs.Legends.{copy_from}
-use Rattle.legends.proofs.ComposeLaws.{text_rows, rows_none, rows-put}
+use Rattle.legends.proofs.ComposeLaws.{text_rows}
 use Rattle.legends.proofs.compose.paint_rows.Given as goal
 
 abbrev pub invariant-loop-i : goal.invariant-loop-i

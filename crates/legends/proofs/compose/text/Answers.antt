@@ -1,7 +1,6 @@
 -- The part from behind the six bytes, as long as the sixth says.
 use native.Mathlib.Nat.{add-sub_cancel_left}
 use Rattle.legends.proofs.ComposeLaws.{text_at}
-use borrow.Author.Rules.{rules}
 use Rattle.legends.proofs.compose.text.Goals as goal
 
 pub returns : goal.returns

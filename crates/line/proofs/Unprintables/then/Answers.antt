@@ -3,7 +3,6 @@ use mathlib.Core.Path.{◌≡◌, sym, ap, ◌∙◌}
 use mathlib.Core.List.{List}
 use Prim.Native.Nat.{ℕ}
 use lib.ListN.{length}
-use borrow.Author.Rules.{rules}
 use Rattle.line.specs.declared.Unprintables.{Unprintables}
 use Rattle.line.specs.Line.{told}
 use Rattle.line.proofs.UnprintableLaws.{told-after, told-both}

@@ -1,15 +1,13 @@
 -- Turn i writes the two bytes of cell i, so the first i cells have the code, and no mark.
-use mathlib.Core.Path.{◌≡◌, refl, sym, ap, ◌∙◌}
+use mathlib.Core.Path.{refl, sym, ap, ◌∙◌}
 use mathlib.Core.List.{map}
-use Prim.Native.Nat.{◌*◌, ◌≤◌, ◌<◌, ◌-◌}
 use native.Mathlib.Omega.{arith}
-use lib.ListN.{length, replicate, length-map, length-set, length-replicate, get_or-replicate, get_or-map}
+use lib.ListN.{replicate, length-map, length-set, length-replicate, get_or-replicate, get_or-map}
 use borrow.Author.Rules.{rules}
-use Rattle.seq.proofs.Loops.{filled, filled_none, filled-all}
+use Rattle.seq.proofs.Loops.{filled_none, filled-all}
 use Rattle.numbers.specs.Sizes.{line_width}
 use Rattle.line.specs.declared.Cell.{Cell}
 use Rattle.line.specs.Cells.{unruled}
-use Rattle.line.specs.Straight.{plain}
 use Rattle.line.proofs.StoredLaws.{cell-more}
 use Rattle.line.proofs.PlainLaws.{length-plain}
 use Rattle.line.proofs.first.fill.Goals as goal

@@ -1,20 +1,12 @@
 -- The cells before `at` have codes of the record, and the next block adds its own.
-use mathlib.Core.Path.{◌≡◌, refl, sym, ap, ◌∙◌}
-use mathlib.Core.Bool.{◌||◌}
-use mathlib.Core.List.{List, ◌++◌, map-append, append_assoc, append-nil}
-use Prim.Native.Nat.{ℕ, ◌≤◌, ◌+◌, ◌*◌, ◌-◌}
-use native.Mathlib.Omega.{arith}
-use lib.Bits.{bit_or}
-use lib.ListN.{length, get_or, take, drop, length-map, length-drop, drop_of_length-le}
-use lib.Seq.{take_all, take-add, take_at, drop_at, drop-drop, length-take-le}
+use mathlib.Core.Path.{◌≡◌}
+use mathlib.Core.List.{List, ◌++◌}
+use Prim.Native.Nat.{ℕ, ◌≤◌, ◌-◌}
+use lib.ListN.{length, take, drop}
 use lib.Dec.{ltb}
-use borrow.Author.Rules.{rules}
 use Rattle.seq.specs.Words.{any}
-use Rattle.seq.proofs.Loops.{any_append}
 use Rattle.line.specs.Codes.{codes}
 use Rattle.line.specs.Straight.{plain}
-use Rattle.line.proofs.MarkLaws.{or-reaches}
-use Rattle.line.proofs.PlainLaws.{plain-lent, plain-put}
 use Rattle.line.proofs.first.look_up.Given as goal
 
 -- codes of the first n bytes, before what else stands there; and whether one of them is FF

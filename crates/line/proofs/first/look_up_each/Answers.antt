@@ -1,14 +1,12 @@
 -- Turn i writes code i, so the first i cells have codes of the record, and what is put together is above FF where one of these is FF.
 use mathlib.Core.Path.{◌≡◌, refl, sym, ap, ◌∙◌}
 use mathlib.Core.Bool.{◌||◌}
-use mathlib.Core.List.{List}
-use Prim.Native.Nat.{ℕ, ◌+◌, ◌≤◌, ◌<◌, ◌-◌}
+use Prim.Native.Nat.{◌+◌, ◌<◌}
 use native.Mathlib.Omega.{arith}
-use lib.ListN.{length, get_or, take, length-set, length-map}
+use lib.ListN.{length, get_or, length-set, length-map}
 use lib.Dec.{ltb}
 use borrow.Author.Rules.{rules}
-use Rattle.seq.specs.Words.{any}
-use Rattle.seq.proofs.Loops.{filled, filled_none, filled-all, any-more, any-all, get_or-map}
+use Rattle.seq.proofs.Loops.{filled_none, filled-all, any-more, any-all, get_or-map}
 use Rattle.line.specs.Codes.{codes}
 use Rattle.line.specs.Straight.{plain}
 use Rattle.line.proofs.MarkLaws.{same-ltb, or-reaches}

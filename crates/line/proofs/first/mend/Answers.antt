@@ -2,15 +2,15 @@
 use mathlib.Core.Path.{◌≡◌, refl, sym, ap, ◌∙◌}
 use mathlib.Core.Bool.{cond}
 use mathlib.Core.List.{List, map}
-use Prim.Native.Nat.{ℕ, ◌/◌, ◌≤◌, ◌<◌, ◌-◌}
+use Prim.Native.Nat.{ℕ, ◌≤◌, ◌<◌}
 use native.Mathlib.Omega.{arith}
 use lib.ListN.{length, length-map}
 use borrow.Author.Rules.{rules}
-use Rattle.seq.proofs.Loops.{filled, filled_none, filled-all, get_or-map}
+use Rattle.seq.proofs.Loops.{filled_none, filled-all, get_or-map}
 use Rattle.line.specs.Line.{unprintable}
 use Rattle.line.specs.Straight.{plain}
 use Rattle.line.proofs.PlainLaws.{length-plain, plain-old, plain_more}
-use Rattle.line.proofs.UnprintableLaws.{Telling, telling-none, telling-more, telling-all}
+use Rattle.line.proofs.UnprintableLaws.{telling-none, telling-more, telling-all}
 use Rattle.line.proofs.first.mend.Goals as goal
 
 -- what becomes of a code

@@ -1,19 +1,17 @@
 -- The record's codes stand over the front of a line of stand-ins; they are mended, or none of them is unprintable.
-use Prim.Native.Nat.{ℕ, zero, suc, ◌*◌, ◌-◌, ◌≤◌}
+use Prim.Native.Nat.{ℕ, zero, suc, ◌-◌, ◌≤◌}
 use mathlib.Core.Path.{◌≡◌, sym, ap, ◌∙◌}
-use mathlib.Core.Bool.{Bool, true, false, cond, not, not-not}
+use mathlib.Core.Bool.{cond, not, not-not}
 use mathlib.Core.List.{List, [], ◌∷◌, ◌++◌, map}
 use native.Mathlib.Nat.{sub-zero}
 use native.Mathlib.Omega.{arith}
-use lib.ListN.{length, get_or, take, drop, replicate, length-map, length-replicate}
+use lib.ListN.{length, get_or, take, replicate, length-map, length-replicate}
 use lib.Seq.{take_at, drop_at, length-take-le}
-use lib.Dec.{eqb, ltb}
 use borrow.Author.Rules.{rules}
-use Rattle.seq.specs.Words.{any, all}
 use Rattle.seq.proofs.Laws.{or_left, or_right, drop-replicate}
 use Rattle.numbers.specs.Sizes.{line_width}
 use Rattle.line.specs.Line.{unprintable, stand_in, translated, told, line_codes}
-use Rattle.line.specs.Codes.{codes, unprintable_codes}
+use Rattle.line.specs.Codes.{codes}
 use Rattle.line.specs.Straight.{plain}
 use Rattle.line.proofs.CellLaws.{fitted-any, unprintable-codes, replaced-codes, printable-none, printable-codes}
 use Rattle.line.proofs.PlainLaws.{plain-lent, plain-put}
@@ -50,18 +48,21 @@ returns-then-top-fitted c = let a = c.args in
     let behind = drop-replicate (n - 0) line_width other ∙ (λ j. replicate (left j) (c.stand_in-other.ensures j)) in
     plain-put 0 n line c.fill.new.cells c.fill.ensures (codes a.table.now a.sent.now) _ back
     ∙ ap (λ (l : List ℕ). plain (codes a.table.now a.sent.now ++ l)) behind) ∙ ap plain (take_at cs (fill ps t r) (n - 0) long) in
-    let mended = c.mend.ensures.cells cs lent ∙ (λ j. plain (map (λ x. cond (unprintable ps x) (c.stand_in-other.ensures j) x) cs)) ∙ ap plain (replaced-codes ps t r) in record { cells = plain-put 0 n line _ (let a = c.args in
-    let n = length a.sent.now in
-    let other = c.stand_in-other.result in
-    let line = replicate line_width other in
-    let there : length line ≡ line_width = length-replicate line_width other in
-    let short = length-take-le (n - 0) line (omega arith) ∙ sub-zero n in
-    let back = c.look_up-top.ensures.cells (take (n - 0) line) short (plain-lent 0 n line c.fill.new.cells c.fill.ensures) in
-    let left : line_width - (n - 0) ≡ line_width - n = omega arith in
-    let behind = drop-replicate (n - 0) line_width other ∙ (λ j. replicate (left j) (c.stand_in-other.ensures j)) in
-    plain-put 0 n line c.fill.new.cells c.fill.ensures (codes a.table.now a.sent.now) _ back
-    ∙ ap (λ (l : List ℕ). plain (codes a.table.now a.sent.now ++ l)) behind) (translated ps t r) _ mended
-          ∙ ap (λ (l : List ℕ). plain (translated ps t r ++ l)) (drop_at cs (fill ps t r) (n - 0) long); found = c.mend.ensures.found cs lent ∙ ap told (unprintable-codes ps t r) }
+    let mended = c.mend.ensures.cells cs lent ∙ (λ j. plain (map (λ x. cond (unprintable ps x) (c.stand_in-other.ensures j) x) cs)) ∙ ap plain (replaced-codes ps t r) in record {
+      cells = plain-put 0 n line _ (let a = c.args in
+          let n = length a.sent.now in
+          let other = c.stand_in-other.result in
+          let line = replicate line_width other in
+          let there : length line ≡ line_width = length-replicate line_width other in
+          let short = length-take-le (n - 0) line (omega arith) ∙ sub-zero n in
+          let back = c.look_up-top.ensures.cells (take (n - 0) line) short (plain-lent 0 n line c.fill.new.cells c.fill.ensures) in
+          let left : line_width - (n - 0) ≡ line_width - n = omega arith in
+          let behind = drop-replicate (n - 0) line_width other ∙ (λ j. replicate (left j) (c.stand_in-other.ensures j)) in
+          plain-put 0 n line c.fill.new.cells c.fill.ensures (codes a.table.now a.sent.now) _ back
+          ∙ ap (λ (l : List ℕ). plain (codes a.table.now a.sent.now ++ l)) behind) (translated ps t r) _ mended
+          ∙ ap (λ (l : List ℕ). plain (translated ps t r ++ l)) (drop_at cs (fill ps t r) (n - 0) long);
+      found = c.mend.ensures.found cs lent ∙ ap told (unprintable-codes ps t r);
+    }
 
 pub returns : goal.returns
 unfolding line_codes
@@ -75,14 +76,17 @@ returns c = let a = c.args in
     let fitted = sym c.fitted.ensures ∙ sym (not-not fits) ∙ ap not (or_right top (not fits) c.if-top-fitted.false) in
     let bytes = codes-bytes t r (λ i. omega (arith, c.shared_slice_known-2-1.given i)) in
     let none = fitted-any ps (codes t r) (search rules) bytes fitted ∙ sym c.look_up-top.ensures.top ∙ low in
-    record { cells = (let a = c.args in
-    let n = length a.sent.now in
-    let other = c.stand_in-other.result in
-    let line = replicate line_width other in
-    let there : length line ≡ line_width = length-replicate line_width other in
-    let short = length-take-le (n - 0) line (omega arith) ∙ sub-zero n in
-    let back = c.look_up-top.ensures.cells (take (n - 0) line) short (plain-lent 0 n line c.fill.new.cells c.fill.ensures) in
-    let left : line_width - (n - 0) ≡ line_width - n = omega arith in
-    let behind = drop-replicate (n - 0) line_width other ∙ (λ j. replicate (left j) (c.stand_in-other.ensures j)) in
-    plain-put 0 n line c.fill.new.cells c.fill.ensures (codes a.table.now a.sent.now) _ back
-    ∙ ap (λ (l : List ℕ). plain (codes a.table.now a.sent.now ++ l)) behind) ∙ ap (λ (l : List ℕ). plain (l ++ fill ps t r)) (printable-codes ps t r none); found = ap told (sym (printable-none ps t r none)) }
+    record {
+      cells = (let a = c.args in
+          let n = length a.sent.now in
+          let other = c.stand_in-other.result in
+          let line = replicate line_width other in
+          let there : length line ≡ line_width = length-replicate line_width other in
+          let short = length-take-le (n - 0) line (omega arith) ∙ sub-zero n in
+          let back = c.look_up-top.ensures.cells (take (n - 0) line) short (plain-lent 0 n line c.fill.new.cells c.fill.ensures) in
+          let left : line_width - (n - 0) ≡ line_width - n = omega arith in
+          let behind = drop-replicate (n - 0) line_width other ∙ (λ j. replicate (left j) (c.stand_in-other.ensures j)) in
+          plain-put 0 n line c.fill.new.cells c.fill.ensures (codes a.table.now a.sent.now) _ back
+          ∙ ap (λ (l : List ℕ). plain (codes a.table.now a.sent.now ++ l)) behind) ∙ ap (λ (l : List ℕ). plain (l ++ fill ps t r)) (printable-codes ps t r none);
+      found = ap told (sym (printable-none ps t r none));
+    }

@@ -1,11 +1,10 @@
 -- After k turns the words of 2 k cells are put together, and tell whether one of their marks is bad.
-use mathlib.Core.Path.{◌≡◌, refl, ap, ◌∙◌}
-use Prim.Native.Nat.{ℕ, ◌≤◌, ◌*◌, ◌-◌}
+use mathlib.Core.Path.{refl, ap, ◌∙◌}
+use Prim.Native.Nat.{ℕ, ◌≤◌, ◌*◌}
 use native.Mathlib.Omega.{arith}
 use lib.Bits.{bit_or}
-use lib.ListN.{length, take}
+use lib.ListN.{length}
 use borrow.Author.Rules.{rules}
-use Rattle.seq.specs.Words.{any}
 use Rattle.seq.proofs.Loops.{any-all}
 use Rattle.line.specs.Cells.{cells_in}
 use Rattle.line.specs.Scan.{bad_mark, bad_word}

@@ -1,16 +1,10 @@
 -- After k turns the words of 2 k cells are put together, and tell whether one of their marks is bad.
-use mathlib.Core.Path.{◌≡◌, refl, ap, ◌∙◌}
-use Prim.Native.Nat.{ℕ, ◌≤◌, ◌*◌, ◌-◌}
-use native.Mathlib.Omega.{arith}
-use lib.Bits.{bit_or}
-use lib.ListN.{length, take}
-use borrow.Author.Rules.{rules}
+use mathlib.Core.Path.{◌≡◌}
+use Prim.Native.Nat.{◌≤◌, ◌*◌, ◌-◌}
+use lib.ListN.{take}
 use Rattle.seq.specs.Words.{any}
-use Rattle.seq.proofs.Loops.{any-all}
 use Rattle.line.specs.Cells.{cells_in}
 use Rattle.line.specs.Scan.{bad_mark, bad_word}
-use Rattle.line.proofs.StoredLaws.{length-cells}
-use Rattle.line.proofs.MarkLaws.{word_more}
 use Rattle.line.proofs.marks.any_bad.Given as goal
 
 abbrev pub invariant-loop-k : goal.invariant-loop-k

@@ -1,7 +1,7 @@
 -- From `cell` on no cell has a bad mark. The block at the front has all before it.
 use mathlib.Core.Path.{◌≡◌, sym, ap, ◌∙◌}
-use mathlib.Core.Bool.{Bool, false, not, ◌||◌, or-false}
-use Prim.Native.Nat.{ℕ, ◌+◌, ◌*◌, ◌/◌, ◌-◌, ◌≤◌}
+use mathlib.Core.Bool.{Bool, not, ◌||◌, or-false}
+use Prim.Native.Nat.{ℕ, ◌+◌, ◌*◌, ◌/◌, ◌-◌}
 use native.Mathlib.Omega.{arith}
 use lib.ListN.{length, take, drop, drop_of_length-le}
 use lib.Seq.{drop-drop}
@@ -28,11 +28,13 @@ returns-then-any_bad c = let page = c.args.page.now in
 pub loop-cell-preserved : goal.loop-cell-preserved
 loop-cell-preserved c = let xs = cells_in c.args.page.now in
     let back : c.loop-cell.cell - 512 + 512 ≡ c.loop-cell.cell = omega arith in
-    let behind = ap (λ (n : ℕ). any bad_mark (drop n xs)) back ∙ c.loop-cell.invariant.1 in
-    (search rules, any-back bad_mark (c.loop-cell.cell - 512) 512 xs (sym (let first = c.loop-cell.cell - 512 in
-    let page = c.args.page.now in
-    let size : 2 * c.loop-cell.cell - 2 * first ≡ 2 * 512 = omega arith in
-    c.any_bad.ensures ∙ (λ i. any bad_mark (cells_in (take (size i) (drop (2 * first) page)))) ∙ ap (any bad_mark) (cells-part first 512 page)) ∙ c.if-any_bad.false) behind)
+    let behind = ap (λ (n : ℕ). any bad_mark (drop n xs)) back ∙ c.loop-cell.invariant.1 in (
+      search rules,
+      any-back bad_mark (c.loop-cell.cell - 512) 512 xs (sym (let first = c.loop-cell.cell - 512 in
+          let page = c.args.page.now in
+          let size : 2 * c.loop-cell.cell - 2 * first ≡ 2 * 512 = omega arith in
+          c.any_bad.ensures ∙ (λ i. any bad_mark (cells_in (take (size i) (drop (2 * first) page)))) ∙ ap (any bad_mark) (cells-part first 512 page)) ∙ c.if-any_bad.false) behind,
+    )
 
 pub returns : goal.returns
 returns c = let page = c.args.page.now in

@@ -1,12 +1,12 @@
 -- Each return is what the rules give where the tests before it held or not; what is not set is as it was.
 use mathlib.Core.Path.{◌≡◌, refl, sym, ap, ◌∙◌}
-use mathlib.Core.Bool.{Bool, false}
+use mathlib.Core.Bool.{Bool}
 use mathlib.Core.List.{List}
 use Prim.Native.Nat.{ℕ}
-use lib.ListN.{get_or, length-set}
+use lib.ListN.{length-set}
 use borrow.Author.Rules.{rules}
 use Rattle.line.specs.declared.Cell.{Cell}
-use Rattle.line.specs.Line.{is_blank, merge_cell, collides}
+use Rattle.line.specs.Line.{merge_cell, collides}
 use Rattle.line.specs.Straight.{cell_from, put_cell}
 use Rattle.line.proofs.CellLaws.{Gives, blank-new, blank-old, two-underscores, underscore-new, underscore-old, characters}
 use Rattle.line.proofs.StoredLaws.{put_same, put-code, put-mark}

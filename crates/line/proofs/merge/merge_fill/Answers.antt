@@ -1,10 +1,9 @@
 -- A blank changes nothing; any other code is merged with one cell a turn.
-use mathlib.Core.Path.{◌≡◌, refl, sym, ◌∙◌}
-use Prim.Native.Nat.{◌*◌, ◌≤◌, ◌<◌, ◌-◌}
-use native.Mathlib.Omega.{arith}
+use mathlib.Core.Path.{◌≡◌, sym, ◌∙◌}
+use Prim.Native.Nat.{◌*◌, ◌<◌}
 use lib.ListN.{length, replicate, length-replicate, get_or-replicate}
 use borrow.Author.Rules.{rules}
-use Rattle.line.proofs.MergeLaws.{Merged, merged-none, merged-more, merged-all, merge-blanks}
+use Rattle.line.proofs.MergeLaws.{merged-none, merged-more, merged-all, merge-blanks}
 use Rattle.line.proofs.merge.merge_fill.Goals as goal
 
 pub returns-then-is_blank : goal.returns-then-is_blank

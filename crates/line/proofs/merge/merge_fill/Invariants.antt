@@ -1,10 +1,7 @@
 -- A blank changes nothing; any other code is merged with one cell a turn.
-use mathlib.Core.Path.{◌≡◌, refl, sym, ◌∙◌}
-use Prim.Native.Nat.{◌*◌, ◌≤◌, ◌<◌, ◌-◌}
-use native.Mathlib.Omega.{arith}
-use lib.ListN.{length, replicate, length-replicate, get_or-replicate}
-use borrow.Author.Rules.{rules}
-use Rattle.line.proofs.MergeLaws.{Merged, merged-none, merged-more, merged-all, merge-blanks}
+use Prim.Native.Nat.{◌≤◌, ◌-◌}
+use lib.ListN.{replicate}
+use Rattle.line.proofs.MergeLaws.{Merged}
 use Rattle.line.proofs.merge.merge_fill.Given as goal
 
 abbrev pub invariant-loop-i : goal.invariant-loop-i

@@ -1,17 +1,14 @@
 -- The record's codes with the front of the line, and the stand-in with the rest, are the line's codes with the line.
-use mathlib.Core.Path.{◌≡◌, refl, sym, ap, ◌∙◌}
+use mathlib.Core.Path.{◌≡◌, ap, ◌∙◌}
 use mathlib.Core.Bool.{◌||◌}
-use mathlib.Core.List.{List, ◌++◌}
-use Prim.Native.Nat.{ℕ, ◌+◌, ◌*◌, ◌-◌}
-use native.Mathlib.Omega.{arith}
+use mathlib.Core.List.{◌++◌}
+use Prim.Native.Nat.{◌+◌, ◌*◌, ◌-◌}
 use native.Mathlib.Nat.{sub-zero}
-use lib.ListN.{length, take, drop, replicate}
-use lib.Seq.{take_at, drop_at}
+use lib.ListN.{length, replicate}
 use borrow.Author.Rules.{rules}
 use Rattle.numbers.specs.Sizes.{line_width}
 use Rattle.line.specs.declared.Found.{Found}
-use Rattle.line.specs.Cells.{cells_in, stored}
-use Rattle.line.specs.Line.{stand_in, translated, line_codes, merge_line, any_collides}
+use Rattle.line.specs.Line.{stand_in, translated, line_codes}
 use Rattle.line.proofs.LineLaws.{length-translated}
 use Rattle.line.proofs.MergeLaws.{merge-parts, clash-parts, parts-put, part_left}
 use Rattle.line.proofs.merge.merge_line.Goals as goal

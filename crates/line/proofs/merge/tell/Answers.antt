@@ -1,12 +1,10 @@
 -- After i turns the unprintable positions of the first i bytes are told.
-use mathlib.Core.Path.{◌≡◌, refl, ap, ◌∙◌}
-use Prim.Native.Nat.{ℕ, ◌≤◌, ◌-◌}
+use mathlib.Core.Path.{ap, ◌∙◌}
 use native.Mathlib.Omega.{arith}
-use lib.ListN.{length, get_or}
 use mir.Facts.{Fits-below}
 use borrow.Author.Rules.{rules}
 use Rattle.line.specs.Line.{unprintable, unprintable_at}
-use Rattle.line.proofs.UnprintableLaws.{Telling, telling-none, telling-more, telling-few, telling-all}
+use Rattle.line.proofs.UnprintableLaws.{telling-none, telling-more, telling-few, telling-all}
 use Rattle.line.proofs.merge.tell.Goals as goal
 
 pub loop-i-init : goal.loop-i-init

@@ -1,12 +1,8 @@
 -- After i turns the unprintable positions of the first i bytes are told.
-use mathlib.Core.Path.{◌≡◌, refl, ap, ◌∙◌}
-use Prim.Native.Nat.{ℕ, ◌≤◌, ◌-◌}
-use native.Mathlib.Omega.{arith}
+use Prim.Native.Nat.{◌≤◌, ◌-◌}
 use lib.ListN.{length, get_or}
-use mir.Facts.{Fits-below}
-use borrow.Author.Rules.{rules}
-use Rattle.line.specs.Line.{unprintable, unprintable_at}
-use Rattle.line.proofs.UnprintableLaws.{Telling, telling-none, telling-more, telling-few, telling-all}
+use Rattle.line.specs.Line.{unprintable}
+use Rattle.line.proofs.UnprintableLaws.{Telling}
 use Rattle.line.proofs.merge.tell.Given as goal
 
 abbrev pub invariant-loop-i : goal.invariant-loop-i

@@ -1,6 +1,5 @@
 -- The part lent is the slot, and the record's front is copied over it.
 use native.Mathlib.Nat.{add-sub_cancel_left}
-use borrow.Author.Rules.{rules}
 use Rattle.line.specs.Line.{put_slot}
 use Rattle.line.proofs.tables.load_slot.Goals as goal
 

@@ -1,6 +1,5 @@
 -- The part lent is the slot that serves.
 use native.Mathlib.Nat.{add-sub_cancel_left}
-use borrow.Author.Rules.{rules}
 use Rattle.line.specs.Line.{serving, slot_at}
 use Rattle.line.proofs.tables.serving.Goals as goal
 

@@ -1,11 +1,8 @@
 -- Turn i sets entry i, so the first i are the starting table's.
-use mathlib.Core.Path.{◌≡◌, sym, ◌∙◌}
-use Prim.Native.Nat.{◌≤◌, ◌-◌}
-use lib.ListN.{length, length-set}
+use mathlib.Core.Path.{sym, ◌∙◌}
+use lib.ListN.{length-set}
 use borrow.Author.Rules.{rules}
-use Rattle.seq.proofs.Loops.{filled, filled_none, filled_more, filled-all}
-use Rattle.numbers.specs.Sizes.{slot_size}
-use Rattle.line.specs.Line.{start_table}
+use Rattle.seq.proofs.Loops.{filled_none, filled_more, filled-all}
 use Rattle.line.proofs.TableLaws.{length-start_table, get_or-start_table}
 use Rattle.line.proofs.tables.start_table.Goals as goal
 

@@ -1,12 +1,10 @@
 -- Turn i sets entry i, so the first i are the starting table's.
-use mathlib.Core.Path.{◌≡◌, sym, ◌∙◌}
+use mathlib.Core.Path.{◌≡◌}
 use Prim.Native.Nat.{◌≤◌, ◌-◌}
-use lib.ListN.{length, length-set}
-use borrow.Author.Rules.{rules}
-use Rattle.seq.proofs.Loops.{filled, filled_none, filled_more, filled-all}
+use lib.ListN.{length}
+use Rattle.seq.proofs.Loops.{filled}
 use Rattle.numbers.specs.Sizes.{slot_size}
 use Rattle.line.specs.Line.{start_table}
-use Rattle.line.proofs.TableLaws.{length-start_table, get_or-start_table}
 use Rattle.line.proofs.tables.start_table.Given as goal
 
 abbrev pub invariant-loop-i : goal.invariant-loop-i

@@ -1,6 +1,5 @@
 -- A module that is fitted is not looked for.
 use borrow.Author.Tests.{ne_eqb}
-use borrow.Author.Rules.{rules}
 use Rattle.line.proofs.translate.any_absent.Goals as goal
 
 pub returns-then-pitch-ne0 : goal.returns-then-pitch-ne0

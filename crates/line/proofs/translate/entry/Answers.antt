@@ -1,5 +1,4 @@
 -- The table has an entry for every byte.
-use borrow.Author.Rules.{rules}
 use Rattle.line.proofs.translate.entry.Goals as goal
 
 pub returns : goal.returns

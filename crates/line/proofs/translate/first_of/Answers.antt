@@ -1,6 +1,5 @@
 -- The test's two cases.
 use native.Mathlib.Nat.{add_comm}
-use borrow.Author.Rules.{rules}
 use Rattle.line.proofs.translate.first_of.Goals as goal
 
 pub returns-then-bad-count : goal.returns-then-bad-count

@@ -1,6 +1,5 @@
 -- With all modules fitted FF alone is unprintable; else the code's own module decides too.
 use mathlib.Core.Path.{sym, ◌∙◌}
-use native.Mathlib.Omega.{arith}
 use borrow.Author.Rules.{rules}
 use Rattle.line.specs.Line.{unprintable}
 use Rattle.line.proofs.CellLaws.{fitted-is}

@@ -1,12 +1,8 @@
 -- The cells behind `at` are codes of the record, and the next block adds its own.
-use mathlib.Core.Path.{◌≡◌, refl, sym, ap, ◌∙◌}
-use Prim.Native.Nat.{ℕ, ◌≤◌, ◌+◌, ◌-◌}
-use native.Mathlib.Nat.{add-sub_cancel_left}
+use mathlib.Core.Path.{◌≡◌}
+use Prim.Native.Nat.{◌≤◌, ◌-◌}
 use lib.ListN.{length, take}
-use lib.Seq.{take_all}
-use borrow.Author.Rules.{rules}
 use Rattle.line.specs.Codes.{codes}
-use Rattle.line.proofs.CellLaws.{codes-more}
 use Rattle.line.proofs.translate.look_up.Given as goal
 
 abbrev pub invariant-loop-at : goal.invariant-loop-at

@@ -1,10 +1,8 @@
 -- Turn i sets cell i, so the first i are codes of the record.
-use mathlib.Core.Path.{◌≡◌, refl, sym, ◌∙◌}
-use Prim.Native.Nat.{◌≤◌, ◌-◌}
-use lib.ListN.{length, get_or, length-set, length-map}
+use mathlib.Core.Path.{refl, sym, ◌∙◌}
+use lib.ListN.{get_or, length-set, length-map}
 use borrow.Author.Rules.{rules}
-use Rattle.seq.proofs.Loops.{filled, filled_none, filled_more, filled-all, get_or-map}
-use Rattle.line.specs.Codes.{codes}
+use Rattle.seq.proofs.Loops.{filled_none, filled_more, filled-all, get_or-map}
 use Rattle.line.proofs.translate.look_up_each.Goals as goal
 
 pub loop-i-init : goal.loop-i-init

@@ -1,9 +1,8 @@
 -- Turn i sets cell i, so the first i are codes of the record.
-use mathlib.Core.Path.{◌≡◌, refl, sym, ◌∙◌}
+use mathlib.Core.Path.{◌≡◌}
 use Prim.Native.Nat.{◌≤◌, ◌-◌}
-use lib.ListN.{length, get_or, length-set, length-map}
-use borrow.Author.Rules.{rules}
-use Rattle.seq.proofs.Loops.{filled, filled_none, filled_more, filled-all, get_or-map}
+use lib.ListN.{length}
+use Rattle.seq.proofs.Loops.{filled}
 use Rattle.line.specs.Codes.{codes}
 use Rattle.line.proofs.translate.look_up_each.Given as goal
 

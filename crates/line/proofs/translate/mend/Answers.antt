@@ -2,14 +2,14 @@
 use mathlib.Core.Path.{◌≡◌, refl, sym, ap, ◌∙◌}
 use mathlib.Core.Bool.{cond}
 use mathlib.Core.List.{map}
-use Prim.Native.Nat.{ℕ, ◌≤◌, ◌-◌}
+use Prim.Native.Nat.{ℕ}
 use native.Mathlib.Omega.{arith}
 use lib.ListN.{length, get_or, length-set, length-map}
 use mir.Facts.{Fits-below}
 use borrow.Author.Rules.{rules}
-use Rattle.seq.proofs.Loops.{filled, filled_none, filled_more, filled-all, reads_old, get_or-map}
+use Rattle.seq.proofs.Loops.{filled_none, filled_more, filled-all, reads_old, get_or-map}
 use Rattle.line.specs.Line.{unprintable}
-use Rattle.line.proofs.UnprintableLaws.{Telling, telling-none, telling-more, telling-few, telling-all}
+use Rattle.line.proofs.UnprintableLaws.{telling-none, telling-more, telling-few, telling-all}
 use Rattle.line.proofs.translate.mend.Goals as goal
 
 pub loop-i-init : goal.loop-i-init

@@ -1,15 +1,12 @@
 -- Turn i reads the old code i and mends it, so the first i are mended and the unprintable ones among them told.
-use mathlib.Core.Path.{◌≡◌, refl, sym, ap, ◌∙◌}
+use mathlib.Core.Path.{◌≡◌}
 use mathlib.Core.Bool.{cond}
 use mathlib.Core.List.{map}
-use Prim.Native.Nat.{ℕ, ◌≤◌, ◌-◌}
-use native.Mathlib.Omega.{arith}
-use lib.ListN.{length, get_or, length-set, length-map}
-use mir.Facts.{Fits-below}
-use borrow.Author.Rules.{rules}
-use Rattle.seq.proofs.Loops.{filled, filled_none, filled_more, filled-all, reads_old, get_or-map}
+use Prim.Native.Nat.{◌≤◌, ◌-◌}
+use lib.ListN.{length}
+use Rattle.seq.proofs.Loops.{filled}
 use Rattle.line.specs.Line.{unprintable}
-use Rattle.line.proofs.UnprintableLaws.{Telling, telling-none, telling-more, telling-few, telling-all}
+use Rattle.line.proofs.UnprintableLaws.{Telling}
 use Rattle.line.proofs.translate.mend.Given as goal
 
 abbrev pub invariant-loop-i : goal.invariant-loop-i

@@ -1,6 +1,5 @@
 -- The definition's choice, where nothing is set as where something is.
 use mathlib.Core.Path.{refl, sym, ◌∙◌}
-use borrow.Author.Rules.{rules}
 use Rattle.line.proofs.StoredLaws.{set_same}
 use Rattle.line.proofs.translate.mend_at.Goals as goal
 

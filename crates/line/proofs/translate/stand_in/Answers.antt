@@ -1,6 +1,5 @@
 -- The definition's choice, on the code for 40.
 use mathlib.Core.Path.{refl}
-use borrow.Author.Rules.{rules}
 use Rattle.line.specs.Line.{stand_in}
 use Rattle.line.proofs.translate.stand_in.Goals as goal
 

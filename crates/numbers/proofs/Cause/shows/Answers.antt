@@ -1,6 +1,5 @@
 -- A case each, as `cause_of` has them.
 use Rattle.numbers.specs.Numbers.{cause_of}
-use borrow.Author.Rules.{rules}
 use Rattle.numbers.proofs.Cause.shows.Goals as goal
 
 pub returns-in-FcbChannel : goal.returns-in-FcbChannel

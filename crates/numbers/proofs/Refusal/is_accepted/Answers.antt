@@ -3,7 +3,6 @@ use lib.Dec.{eqb}
 use mathlib.Core.Path.{ap}
 use Rattle.numbers.specs.declared.Row.{Row}
 use Rattle.numbers.specs.Numbers.{is_accepted}
-use borrow.Author.Rules.{rules}
 use Rattle.numbers.proofs.Refusal.is_accepted.Goals as goal
 
 pub returns : goal.returns

@@ -1,6 +1,5 @@
 -- A case each, as `row_of` has them.
 use Rattle.numbers.specs.Numbers.{row_of}
-use borrow.Author.Rules.{rules}
 use Rattle.numbers.proofs.Refusal.row.Goals as goal
 
 pub returns-in-Accepted : goal.returns-in-Accepted

@@ -1,5 +1,4 @@
 -- A case each.
-use borrow.Author.Rules.{rules}
 use Rattle.numbers.proofs.Sense.after.Goals as goal
 
 pub returns-in-NoSense : goal.returns-in-NoSense

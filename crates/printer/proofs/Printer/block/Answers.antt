@@ -1,7 +1,6 @@
 -- The switch stored, then nothing moved.
 use Rattle.line.specs.Line.{no_causes}
 use Rattle.calls.specs.Effects.{do_control}
-use borrow.Author.Rules.{rules}
 use Rattle.printer.proofs.Printer.block.Goals as goal
 
 pub returns : goal.returns

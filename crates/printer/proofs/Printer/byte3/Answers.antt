@@ -1,6 +1,5 @@
 -- Its three bits.
 use Rattle.calls.specs.Reset.{byte3}
-use borrow.Author.Rules.{rules}
 use Rattle.printer.proofs.Printer.byte3.Goals as goal
 
 pub returns : goal.returns

@@ -1,9 +1,7 @@
 -- Started or not, as the definition has it.
 use mathlib.Core.Path.{sym, ◌∙◌}
-use borrow.Author.Tests.{not-true, not-false}
 use Rattle.line.specs.Line.{no_causes}
 use Rattle.calls.specs.Effects.{completing, do_control}
-use borrow.Author.Rules.{rules}
 use Rattle.printer.proofs.Printer.clear.Goals as goal
 
 pub returns-then-not-is_started : goal.returns-then-not-is_started

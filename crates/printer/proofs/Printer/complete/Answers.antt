@@ -1,7 +1,6 @@
 -- The sheet is moved to the top, then all is finished.
 use Rattle.movement.specs.Movement.{to_top}
 use Rattle.line.specs.Line.{no_causes}
-use borrow.Author.Rules.{rules}
 use Rattle.printer.proofs.Printer.complete.Goals as goal
 
 pub returns : goal.returns

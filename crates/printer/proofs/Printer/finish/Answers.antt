@@ -1,7 +1,6 @@
 -- Each byte of status and sense by its definition.
 use Rattle.numbers.specs.Numbers.{row_of}
 use Rattle.calls.specs.Effects.{done}
-use borrow.Author.Rules.{rules}
 use Rattle.printer.proofs.Printer.finish.Goals as goal
 
 pub returns : goal.returns

@@ -3,7 +3,6 @@ use mathlib.Core.Path.{sym, ◌∙◌}
 use Rattle.movement.specs.Movement.{still}
 use Rattle.line.specs.Line.{no_causes}
 use Rattle.calls.specs.Effects.{done, completing, do_control}
-use borrow.Author.Rules.{rules}
 use Rattle.printer.proofs.Printer.initialize.Goals as goal
 
 pub returns : goal.returns

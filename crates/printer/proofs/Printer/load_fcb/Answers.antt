@@ -3,7 +3,6 @@ use Rattle.movement.specs.Movement.{still}
 use Rattle.form.specs.Form.{forms_of}
 use Rattle.line.specs.Line.{no_causes}
 use Rattle.calls.specs.Effects.{done, at_line1, loaded, load_causes, do_load}
-use borrow.Author.Rules.{rules}
 use Rattle.printer.proofs.Printer.load_fcb.Goals as goal
 
 pub returns : goal.returns

@@ -4,7 +4,6 @@ use lib.ListN.{length}
 use Rattle.line.specs.Line.{text_causes}
 use Rattle.line.proofs.TableLaws.{length-serving}
 use Rattle.calls.specs.Effects.{loaded, load_causes, do_load}
-use borrow.Author.Rules.{rules}
 use Rattle.printer.proofs.Printer.load_legends.Goals as goal
 
 pub store_legends-found-requires : goal.store_legends-found-requires

@@ -2,7 +2,6 @@
 use Rattle.line.specs.Line.{no_causes}
 use Rattle.copies.specs.Copies.{with_sequence}
 use Rattle.calls.specs.Effects.{loaded, load_causes, do_load}
-use borrow.Author.Rules.{rules}
 use Rattle.printer.proofs.Printer.load_sequence.Goals as goal
 
 pub returns : goal.returns

@@ -1,7 +1,6 @@
 -- The slot filled and marked, then nothing moved.
 use Rattle.line.specs.Line.{no_causes}
 use Rattle.calls.specs.Effects.{loaded, load_causes, do_load}
-use borrow.Author.Rules.{rules}
 use Rattle.printer.proofs.Printer.load_table.Goals as goal
 
 pub returns : goal.returns

@@ -1,6 +1,5 @@
 -- The definition itself.
 use Rattle.copies.specs.Copies.{copy_mark}
-use borrow.Author.Rules.{rules}
 use Rattle.printer.proofs.Printer.mark_of.Goals as goal
 
 pub returns : goal.returns

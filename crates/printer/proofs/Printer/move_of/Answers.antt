@@ -2,7 +2,6 @@
 use Rattle.form.proofs.LayoutLaws.{lines-in-array}
 use Rattle.calls.specs.Core.{lines_now}
 use Rattle.calls.specs.Effects.{move_of}
-use borrow.Author.Rules.{rules}
 use Rattle.printer.proofs.Printer.move_of.Goals as goal
 
 pub returns : goal.returns

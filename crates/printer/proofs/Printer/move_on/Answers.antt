@@ -1,7 +1,6 @@
 -- Whether it may stand; the movement, its sheet and its cause; then all is finished.
 use Rattle.line.specs.Line.{no_causes}
 use Rattle.calls.specs.Effects.{stands, at_once, do_move}
-use borrow.Author.Rules.{rules}
 use Rattle.printer.proofs.Printer.move_on.Goals as goal
 
 pub returns : goal.returns

@@ -1,7 +1,6 @@
 -- No-Op itself.
 use Rattle.numbers.specs.Numbers.{row_of}
 use Rattle.calls.specs.Effects.{do_control}
-use borrow.Author.Rules.{rules}
 use Rattle.printer.proofs.Printer.no_op.Goals as goal
 
 pub returns : goal.returns

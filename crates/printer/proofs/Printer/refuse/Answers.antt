@@ -1,6 +1,5 @@
 -- Status and sense are those of the refusal's row.
 use Rattle.calls.specs.Effects.{refused}
-use borrow.Author.Rules.{rules}
 use Rattle.printer.proofs.Printer.refuse.Goals as goal
 
 pub returns : goal.returns

@@ -5,7 +5,6 @@ use lib.ListN.{replicate}
 use Rattle.form.proofs.FormLaws.{form-listed}
 use Rattle.legends.specs.Legends.{no_legends}
 use Rattle.calls.specs.Reset.{reset_stores, reset}
-use borrow.Author.Rules.{rules}
 use Rattle.printer.proofs.Printer.reset.Goals as goal
 
 pub start_state-state-requires : goal.start_state-state-requires

@@ -1,7 +1,6 @@
 -- The slot stored, then nothing moved.
 use Rattle.line.specs.Line.{no_causes}
 use Rattle.calls.specs.Effects.{slot_selected, do_control}
-use borrow.Author.Rules.{rules}
 use Rattle.printer.proofs.Printer.select.Goals as goal
 
 pub returns : goal.returns

@@ -1,6 +1,5 @@
 -- Byte by byte.
 use Rattle.calls.specs.Reset.{sense_bytes}
-use borrow.Author.Rules.{rules}
 use Rattle.printer.proofs.Printer.sense_bytes.Goals as goal
 
 pub returns : goal.returns

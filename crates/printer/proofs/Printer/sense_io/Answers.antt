@@ -1,7 +1,6 @@
 -- The reply is the bytes over the front of the buffer; the rest is No-Op's answer, with the sense clear.
 use Rattle.calls.specs.Reset.{sense_bytes}
 use Rattle.calls.specs.Effects.{do_control}
-use borrow.Author.Rules.{rules}
 use Rattle.printer.proofs.Printer.sense_io.Goals as goal
 
 pub returns : goal.returns

@@ -1,5 +1,4 @@
 -- The causes and the movement that are none.
-use borrow.Author.Rules.{rules}
 use Rattle.printer.proofs.Printer.stand.Goals as goal
 
 pub returns : goal.returns

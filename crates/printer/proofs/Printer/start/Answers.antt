@@ -15,7 +15,6 @@ use Rattle.legends.specs.Legends.{no_legends}
 use Rattle.calls.specs.Reset.{no_cells, reset_stores, fresh}
 use Rattle.calls.specs.Start.{start_world}
 use Rattle.calls.proofs.Good.{sizes-good}
-use borrow.Author.Rules.{rules}
 use Rattle.printer.proofs.Printer.start.Goals as goal
 
 byte : (p : ℕ) → listed pitches_listed p ≡ true → p ≤ 255

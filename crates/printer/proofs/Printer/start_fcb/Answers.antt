@@ -2,7 +2,6 @@
 use mathlib.Core.Path.{sym}
 use native.Mathlib.Omega.{arith}
 use Rattle.form.proofs.FormLaws.{short-form, start-forms, start-room}
-use borrow.Author.Rules.{rules}
 use Rattle.printer.proofs.Printer.start_fcb.Goals as goal
 
 pub returns : goal.returns

@@ -3,7 +3,6 @@ use Rattle.seq.specs.Words.{padded}
 use Rattle.line.specs.Line.{start_slots}
 use Rattle.copies.specs.Copies.{start_copies}
 use Rattle.calls.specs.Reset.{blank_sheet, reset_state}
-use borrow.Author.Rules.{rules}
 use Rattle.printer.proofs.Printer.start_state.Goals as goal
 
 pub returns : goal.returns

@@ -1,6 +1,5 @@
 -- The counters as `lending::tally` makes them.
 use Rattle.calls.specs.Calls.{tallying, do_tally}
-use borrow.Author.Rules.{rules}
 use Rattle.printer.proofs.Printer.tally.Goals as goal
 
 pub returns : goal.returns

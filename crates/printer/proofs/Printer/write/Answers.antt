@@ -1,6 +1,5 @@
 -- The line written, then moved from, then all is finished.
 use Rattle.calls.specs.Effects.{do_write, written, write_causes}
-use borrow.Author.Rules.{rules}
 use Rattle.printer.proofs.Printer.write.Goals as goal
 
 pub returns : goal.returns

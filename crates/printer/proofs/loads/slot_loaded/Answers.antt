@@ -1,6 +1,5 @@
 -- The definition itself.
 use Rattle.calls.specs.Effects.{slot_loaded}
-use borrow.Author.Rules.{rules}
 use Rattle.printer.proofs.loads.slot_loaded.Goals as goal
 
 pub returns : goal.returns

@@ -3,7 +3,6 @@ use mathlib.Core.Path.{◌≡◌, sym}
 use mathlib.Core.Bool.{false}
 use Prim.Native.Nat.{ℕ}
 use lib.Dec.{eqb}
-use borrow.Author.Rules.{rules}
 use borrow.Author.Tests.{ne_eqb}
 use Rattle.calls.specs.Commands.{codes, look_up, decode}
 use Rattle.refusals.proofs.commands.decode.Goals as goal
@@ -102,26 +101,26 @@ returns-in-35 c = rw c.in-35.is
 pub returns-in_default : goal.returns-in_default
 unfolding codes look_up decode
 returns-in_default c = simp (
-      other c.in_default.in_default-own.rest.0.0.0.0.0.0.0.0.0.0.0.0.0.0.0.0.0.0.0.0.0.1,
-      other c.in_default.in_default-own.rest.0.0.0.0.0.0.0.0.0.0.0.0.0.0.0.0.0.0.0.0.1,
-      other c.in_default.in_default-own.rest.0.0.0.0.0.0.0.0.0.0.0.0.0.0.0.0.0.0.0.1,
-      other c.in_default.in_default-own.rest.0.0.0.0.0.0.0.0.0.0.0.0.0.0.0.0.0.0.1,
-      other c.in_default.in_default-own.rest.0.0.0.0.0.0.0.0.0.0.0.0.0.0.0.0.0.1,
-      other c.in_default.in_default-own.rest.0.0.0.0.0.0.0.0.0.0.0.0.0.0.0.0.1,
-      other c.in_default.in_default-own.rest.0.0.0.0.0.0.0.0.0.0.0.0.0.0.0.1,
-      other c.in_default.in_default-own.rest.0.0.0.0.0.0.0.0.0.0.0.0.0.0.1,
-      other c.in_default.in_default-own.rest.0.0.0.0.0.0.0.0.0.0.0.0.0.1,
-      other c.in_default.in_default-own.rest.0.0.0.0.0.0.0.0.0.0.0.0.1,
-      other c.in_default.in_default-own.rest.0.0.0.0.0.0.0.0.0.0.0.1,
-      other c.in_default.in_default-own.rest.0.0.0.0.0.0.0.0.0.0.1,
-      other c.in_default.in_default-own.rest.0.0.0.0.0.0.0.0.0.1,
-      other c.in_default.in_default-own.rest.0.0.0.0.0.0.0.0.1,
-      other c.in_default.in_default-own.rest.0.0.0.0.0.0.0.1,
-      other c.in_default.in_default-own.rest.0.0.0.0.0.0.1,
-      other c.in_default.in_default-own.rest.0.0.0.0.0.1,
-      other c.in_default.in_default-own.rest.0.0.0.0.1,
-      other c.in_default.in_default-own.rest.0.0.0.1,
-      other c.in_default.in_default-own.rest.0.0.1,
-      other c.in_default.in_default-own.rest.0.1,
-      other c.in_default.in_default-own.rest.1,
-    ) c.skip_of.ensures
+  other c.in_default.in_default-own.rest.0.0.0.0.0.0.0.0.0.0.0.0.0.0.0.0.0.0.0.0.0.1,
+  other c.in_default.in_default-own.rest.0.0.0.0.0.0.0.0.0.0.0.0.0.0.0.0.0.0.0.0.1,
+  other c.in_default.in_default-own.rest.0.0.0.0.0.0.0.0.0.0.0.0.0.0.0.0.0.0.0.1,
+  other c.in_default.in_default-own.rest.0.0.0.0.0.0.0.0.0.0.0.0.0.0.0.0.0.0.1,
+  other c.in_default.in_default-own.rest.0.0.0.0.0.0.0.0.0.0.0.0.0.0.0.0.0.1,
+  other c.in_default.in_default-own.rest.0.0.0.0.0.0.0.0.0.0.0.0.0.0.0.0.1,
+  other c.in_default.in_default-own.rest.0.0.0.0.0.0.0.0.0.0.0.0.0.0.0.1,
+  other c.in_default.in_default-own.rest.0.0.0.0.0.0.0.0.0.0.0.0.0.0.1,
+  other c.in_default.in_default-own.rest.0.0.0.0.0.0.0.0.0.0.0.0.0.1,
+  other c.in_default.in_default-own.rest.0.0.0.0.0.0.0.0.0.0.0.0.1,
+  other c.in_default.in_default-own.rest.0.0.0.0.0.0.0.0.0.0.0.1,
+  other c.in_default.in_default-own.rest.0.0.0.0.0.0.0.0.0.0.1,
+  other c.in_default.in_default-own.rest.0.0.0.0.0.0.0.0.0.1,
+  other c.in_default.in_default-own.rest.0.0.0.0.0.0.0.0.1,
+  other c.in_default.in_default-own.rest.0.0.0.0.0.0.0.1,
+  other c.in_default.in_default-own.rest.0.0.0.0.0.0.1,
+  other c.in_default.in_default-own.rest.0.0.0.0.0.1,
+  other c.in_default.in_default-own.rest.0.0.0.0.1,
+  other c.in_default.in_default-own.rest.0.0.0.1,
+  other c.in_default.in_default-own.rest.0.0.1,
+  other c.in_default.in_default-own.rest.0.1,
+  other c.in_default.in_default-own.rest.1,
+) c.skip_of.ensures

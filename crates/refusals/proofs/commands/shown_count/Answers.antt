@@ -1,6 +1,5 @@
 -- Its two cases.
 use borrow.Author.Tests.{le-leb, lt-leb}
-use borrow.Author.Rules.{rules}
 use Rattle.refusals.proofs.commands.shown_count.Goals as goal
 
 pub returns-then-n-le-LEGEND_BYTES : goal.returns-then-n-le-LEGEND_BYTES

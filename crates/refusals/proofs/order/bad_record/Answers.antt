@@ -1,6 +1,5 @@
 -- A case each; an empty record is one of length 0.
 use Rattle.seq.proofs.Laws.{empty-length}
-use borrow.Author.Rules.{rules}
 use Rattle.refusals.proofs.order.bad_record.Goals as goal
 
 pub returns-in-Write : goal.returns-in-Write

@@ -3,7 +3,6 @@ use mathlib.Core.List.{[]}
 use borrow.Author.Tests.{ltb-false}
 use Rattle.numbers.specs.Sizes.{legend_size}
 use Rattle.calls.specs.Calls.{check_of}
-use borrow.Author.Rules.{rules}
 use Rattle.refusals.proofs.order.check_of.Goals as goal
 
 pub load_check-requires : goal.load_check-requires

@@ -3,8 +3,7 @@ use mathlib.Core.Path.{◌≡◌, sym, ap, ◌∙◌}
 use mathlib.Core.Bool.{true, not, ◌&&◌}
 use mathlib.Core.Option.{Option}
 use mathlib.Core.List.{List, [], ◌∷◌}
-use Prim.Native.Nat.{ℕ}
-use lib.ListN.{length, drop}
+use lib.ListN.{length}
 use lib.Dec.{ltb}
 use borrow.Author.Tests.{le-ltb}
 use Rattle.seq.specs.Words.{when, first_or}
@@ -17,13 +16,12 @@ use Rattle.numbers.proofs.Laws.{check-hit, check-pass}
 use Rattle.calls.specs.declared.Command.{Command}
 use Rattle.calls.specs.declared.Sheet.{Sheet}
 use Rattle.calls.specs.Core.{Core, started}
-use Rattle.calls.specs.Commands.{Issued, issued}
+use Rattle.calls.specs.Commands.{Issued}
 use Rattle.calls.specs.Contents.{core_ok}
 use Rattle.calls.specs.Calls.{bad_record, check_of, movement, command_tests}
 use Rattle.calls.proofs.Refused.{one-page-only}
 use Rattle.refusals.specs.declared.commands.Kind.{Kind}
 use Rattle.refusals.specs.Kind.{KindOf}
-use borrow.Author.Rules.{rules}
 use Rattle.refusals.proofs.order.command_refusal.Goals as goal
 
 -- the tests after 9, asked of the command's kind and of the sheet that the code is passed

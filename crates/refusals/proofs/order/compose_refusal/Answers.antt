@@ -1,17 +1,11 @@
 -- The tests in their order: those that are passed are false, and the first that holds gives its number.
 use mathlib.Core.Path.{◌≡◌, sym, ap}
-use mathlib.Core.Bool.{true, not}
-use mathlib.Core.Option.{Option}
-use mathlib.Core.List.{List}
-use lib.ListN.{length, drop}
+use mathlib.Core.Bool.{not}
+use lib.ListN.{length}
 use borrow.Author.Tests.{lt-ltb, le-ltb}
-use Rattle.seq.proofs.Laws.{First, clear, hit, pass, first-only}
-use Rattle.numbers.specs.declared.Refusal.{Refusal}
-use Rattle.numbers.specs.declared.Refusal.TheVariants.{Accepted, BadIndex, TooShort, NoPage, BadStore}
+use Rattle.seq.proofs.Laws.{clear, hit, pass, first-only}
+use Rattle.numbers.specs.declared.Refusal.TheVariants.{BadIndex, TooShort, NoPage, BadStore}
 use Rattle.copies.specs.Copies.{copy_count, pair_size}
-use Rattle.calls.specs.Core.{Stores, Core}
-use Rattle.calls.specs.Contents.{core_ok}
-use Rattle.calls.specs.Calls.{compose_tests}
 use Rattle.calls.proofs.Good.{form-lines}
 use borrow.Author.Rules.{rules}
 use Rattle.refusals.proofs.order.compose_refusal.Goals as goal

@@ -1,6 +1,5 @@
 -- A case each, by that load's own check.
 use Rattle.calls.specs.Effects.{load_check}
-use borrow.Author.Rules.{rules}
 use Rattle.refusals.proofs.order.load_check.Goals as goal
 
 pub returns-in-Fcb : goal.returns-in-Fcb

@@ -3,7 +3,6 @@ use mathlib.Core.Path.{sym, ap, ◌∙◌}
 use mathlib.Core.Bool.{not}
 use Rattle.seq.proofs.Laws.{clear, hit, pass, first-only}
 use Rattle.numbers.specs.declared.Refusal.TheVariants.{NoPage, BadStore, MostBetween}
-use borrow.Author.Rules.{rules}
 use Rattle.refusals.proofs.order.release_refusal.Goals as goal
 
 pub returns-then-not-state : goal.returns-then-not-state

@@ -4,7 +4,6 @@ use mathlib.Core.Bool.{not}
 use Rattle.seq.proofs.Laws.{clear, hit, pass, first-only}
 use Rattle.numbers.specs.declared.Refusal.TheVariants.{BadForm, BadStore}
 use Rattle.calls.specs.Start.{start_refusal}
-use borrow.Author.Rules.{rules}
 use Rattle.refusals.proofs.order.start_refusal.Goals as goal
 
 pub returns-then-not-sized : goal.returns-then-not-sized

@@ -3,7 +3,6 @@ use mathlib.Core.Path.{sym, ap, ◌∙◌}
 use mathlib.Core.Bool.{not}
 use Rattle.seq.proofs.Laws.{clear, hit, pass, first-only}
 use Rattle.numbers.specs.declared.Refusal.TheVariants.{BadStore, NoneBetween}
-use borrow.Author.Rules.{rules}
 use Rattle.refusals.proofs.order.tally_refusal.Goals as goal
 
 pub returns-then-none_between : goal.returns-then-none_between

@@ -3,7 +3,6 @@ use mathlib.Core.Path.{ap, ◌∙◌}
 use lib.Dec.{lit≤}
 use Rattle.numbers.specs.Numbers.{only}
 use Rattle.state.specs.Packed.{packed}
-use borrow.Author.Rules.{rules}
 use Rattle.state.proofs.Fields.{fields, only-fits}
 use Rattle.state.proofs.answer.number_only.Goals as goal
 

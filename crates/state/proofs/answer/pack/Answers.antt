@@ -1,6 +1,5 @@
 -- Its nine fields, each in its place.
 use Rattle.state.specs.Packed.{packed}
-use borrow.Author.Rules.{rules}
 use Rattle.state.proofs.answer.pack.Goals as goal
 
 pub join-requires : goal.join-requires

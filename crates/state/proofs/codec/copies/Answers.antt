@@ -1,6 +1,5 @@
 -- The array copied, the other fields from their places.
 use Rattle.state.specs.State.{state_at}
-use borrow.Author.Rules.{rules}
 use Rattle.state.proofs.codec.copies.Goals as goal
 
 pub returns : goal.returns

@@ -1,6 +1,5 @@
 -- Each counter from its place.
 use Rattle.state.specs.State.{state_at}
-use borrow.Author.Rules.{rules}
 use Rattle.state.proofs.codec.counters.Goals as goal
 
 pub returns : goal.returns

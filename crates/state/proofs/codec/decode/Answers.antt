@@ -1,6 +1,5 @@
 -- Each part by its own function.
 use Rattle.state.specs.State.{state_at}
-use borrow.Author.Rules.{rules}
 use Rattle.state.proofs.codec.decode.Goals as goal
 
 pub returns : goal.returns

@@ -3,7 +3,6 @@ use native.Mathlib.Omega.{arith}
 use Rattle.seq.proofs.Laws.{spelled}
 use Rattle.printer.specs.Layout.{pitches_at}
 use Rattle.state.specs.State.{state_at}
-use borrow.Author.Rules.{rules}
 use Rattle.state.proofs.codec.fixed.Goals as goal
 
 pub returns : goal.returns

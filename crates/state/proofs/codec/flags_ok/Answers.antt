@@ -1,6 +1,5 @@
 -- Each flag, in the order of its place.
 use mathlib.Core.Bool.{and-true}
-use borrow.Author.Rules.{rules}
 use Rattle.state.proofs.codec.flags_ok.Goals as goal
 
 pub returns : goal.returns

@@ -1,6 +1,5 @@
 -- The array copied, the count from its place.
 use Rattle.state.specs.State.{state_at}
-use borrow.Author.Rules.{rules}
 use Rattle.state.proofs.codec.forms.Goals as goal
 
 pub returns : goal.returns

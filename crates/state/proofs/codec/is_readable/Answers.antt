@@ -3,7 +3,6 @@ use mathlib.Core.Bool.{and-true}
 use borrow.Author.Tests.{ne_eqb, eq-eqb}
 use Rattle.seq.specs.Words.{every}
 use Rattle.state.specs.State.{readable}
-use borrow.Author.Rules.{rules}
 use Rattle.state.proofs.codec.is_readable.Goals as goal
 
 pub returns-then-s-ne-STATE_BYTES : goal.returns-then-s-ne-STATE_BYTES

@@ -3,7 +3,6 @@ use native.Mathlib.Omega.{arith}
 use Prim.Native.Nat.{◌-◌}
 use lib.ListN.{drop, length-drop, drop_of_length-le}
 use Rattle.printer.specs.Layout.{channel_at, state_size}
-use borrow.Author.Rules.{rules}
 use Rattle.state.proofs.codec.lay_counters.Goals as goal
 
 pub returns : goal.returns

@@ -2,7 +2,6 @@
 use lib.Seq.{drop-drop}
 use Prim.Native.Nat.{◌-◌}
 use Rattle.printer.specs.Layout.{sheet_at, pairs_at}
-use borrow.Author.Rules.{rules}
 use Rattle.state.proofs.codec.lay_sheet.Goals as goal
 
 pub returns : goal.returns

@@ -2,7 +2,6 @@
 use native.Mathlib.Omega.{arith}
 use mathlib.Core.Path.{refl, ◌∙◌}
 use Rattle.state.proofs.Round.{readable-size, put-counters-bytes}
-use borrow.Author.Rules.{rules}
 use Rattle.state.proofs.codec.put_counters.Goals as goal
 
 pub returns : goal.returns

@@ -2,7 +2,6 @@
 use native.Mathlib.Omega.{arith}
 use mathlib.Core.Path.{refl, ◌∙◌}
 use Rattle.state.proofs.Round.{readable-size, put-sheet-bytes}
-use borrow.Author.Rules.{rules}
 use Rattle.state.proofs.codec.put_sheet.Goals as goal
 
 pub returns : goal.returns

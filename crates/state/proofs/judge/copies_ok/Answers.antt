@@ -1,7 +1,6 @@
 -- The range of its fields, and its check.
 use Rattle.state.specs.State.{state_at}
 use Rattle.state.specs.Contents.{copies_ok}
-use borrow.Author.Rules.{rules}
 use Rattle.state.proofs.judge.copies_ok.Goals as goal
 
 pub returns : goal.returns

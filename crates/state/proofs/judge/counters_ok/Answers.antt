@@ -1,7 +1,6 @@
 -- The counters from their places.
 use mathlib.Core.Path.{ap, ◌∙◌}
 use Rattle.counters.specs.Counters.{counters_ok}
-use borrow.Author.Rules.{rules}
 use Rattle.state.proofs.judge.counters_ok.Goals as goal
 
 pub returns : goal.returns

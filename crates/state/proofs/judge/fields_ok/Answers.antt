@@ -2,14 +2,12 @@
 use mathlib.Core.Path.{◌≡◌}
 use mathlib.Core.Bool.{true, false, ◌&&◌, and-true, and-false, and_assoc}
 use lib.Dec.{leb}
-use borrow.Author.Tests.{not-true, not-false}
 use Rattle.seq.specs.Words.{every}
 use Rattle.line.specs.Line.{slots_in_range}
 use Rattle.calls.specs.Contents.{due_ok}
 use Rattle.printer.specs.Layout.{loaded_at, selected_at}
 use Rattle.state.specs.State.{byte_at, flag_at, state_at}
 use Rattle.state.specs.Contents.{fields_ok}
-use borrow.Author.Rules.{rules}
 use Rattle.state.proofs.judge.fields_ok.Goals as goal
 
 pub returns-then-not-slots-sheet : goal.returns-then-not-slots-sheet

@@ -1,6 +1,5 @@
 -- Each number from its place.
 use Rattle.state.specs.State.{state_at}
-use borrow.Author.Rules.{rules}
 use Rattle.state.proofs.judge.fixed_ok.Goals as goal
 
 pub returns : goal.returns

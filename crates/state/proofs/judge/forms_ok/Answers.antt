@@ -8,7 +8,6 @@ use Rattle.calls.specs.Contents.{line_ok}
 use Rattle.printer.specs.Layout.{sheet_at}
 use Rattle.state.specs.State.{state_at}
 use Rattle.state.specs.Contents.{forms_line_ok}
-use borrow.Author.Rules.{rules}
 use Rattle.state.proofs.judge.forms_ok.Goals as goal
 
 pub returns : goal.returns

@@ -9,7 +9,6 @@ use Rattle.calls.proofs.Good.{sizes-good}
 use Rattle.state.specs.State.{readable}
 use Rattle.state.proofs.Round.{readable-size}
 use Rattle.state.proofs.Sound.{sound-parts}
-use borrow.Author.Rules.{rules}
 use Rattle.state.proofs.judge.judge.Goals as goal
 
 pub returns-then-not-found : goal.returns-then-not-found

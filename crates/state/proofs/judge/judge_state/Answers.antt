@@ -1,11 +1,9 @@
 -- The three parts of `state-parts`; it returns at the first that is bad.
 use mathlib.Core.Path.{◌≡◌, sym, ◌∙◌}
 use mathlib.Core.Bool.{true, false≢true}
-use borrow.Author.Tests.{not-true, not-false}
 use Rattle.state.specs.State.{state_at}
 use Rattle.state.specs.Contents.{fields_ok, copies_ok}
 use Rattle.state.proofs.Sound.{state-parts}
-use borrow.Author.Rules.{rules}
 use Rattle.state.proofs.judge.judge_state.Goals as goal
 
 pub returns : goal.returns

@@ -1,7 +1,6 @@
 -- Form length, FCB and count from their places.
 use mathlib.Core.Path.{◌∙◌}
 use Rattle.state.specs.State.{state_at}
-use borrow.Author.Rules.{rules}
 use Rattle.state.proofs.judge.lay_out.Goals as goal
 
 pub returns : goal.returns

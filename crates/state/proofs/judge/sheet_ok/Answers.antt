@@ -1,6 +1,5 @@
 -- The definitions themselves.
 use Rattle.calls.specs.Contents.{due_ok, written_ok}
-use borrow.Author.Rules.{rules}
 use Rattle.state.proofs.judge.sheet_ok.Goals as goal
 
 pub returns : goal.returns
