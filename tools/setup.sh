@@ -115,22 +115,24 @@ lock() {
 
 unlock() { exec 9>&-; }
 
-# The crate that rt lib has begun with last.
-rt_is_at() { sed -n 's/^rt: chose --jobs [0-9]* for //p' "$BUILD/rt.out" | tail -n 1; }
+# The crate that rt lib has come to.
+rt_is_at() {
+    { echo "$EXPORTS"; sed -n 's/^rt: chose --jobs [0-9]* for //p; s/^rt: \([a-z_0-9]*\): begins with .*/\1/p' "$BUILD/rt.out"; } | tail -n 1
+}
 
 # Says what rt is at and for how long so far: on a terminal in one line that is written anew, else every 30 s. Ends with the script that called it.
-watch_rt() { # [WHAT]
+watch_rt() { # COMMAND WORD...
     began=$(date +%s) ticks=0
     while sleep 1 >/dev/null 2>&1 && kill -0 $$ 2>/dev/null; do
         ticks=$((ticks + 1))
         # shellcheck disable=SC2059
-        line=$(printf "$says_proving" "${1:-$(rt_is_at)}" $(($(date +%s) - began)))
+        line=$(printf "$says_proving" "$("$@")" $(($(date +%s) - began)))
         if [ -t 2 ]; then printf '\r\033[K%s' "$line" >&2; elif [ $((ticks % 30)) -eq 1 ]; then echo "$line" >&2; fi
     done
 }
 
-# Shows on standard error what rt is at, until end_progress: WHAT, or the crate that it says.
-show_progress() { # [WHAT]
+# Shows on standard error what rt is at, which the command says, until end_progress.
+show_progress() { # COMMAND WORD...
     watch_rt "$@" 9>&- &
     watcher=$!
 }
@@ -168,7 +170,7 @@ make_library() {
     need rt
     sum=$(crate_sum "$EXPORTS") status=0
     : >"$BUILD/rt.out"
-    show_progress
+    show_progress rt_is_at
     (cd "crates/$EXPORTS" && rt lib) >"$BUILD/rt.out" 2>&1 || status=$?
     end_progress
     [ "$status" -eq 0 ] || { cat "$BUILD/rt.out" >&2; stop "$says_refused"; }
