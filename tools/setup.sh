@@ -13,12 +13,10 @@ esac
 WARNINGS='-Wall -Wextra -Wpedantic -Wconversion -Wshadow -Werror'
 BUILD=build
 LIBRARY=$BUILD/libtrestlepip.a
+# The crate that the archive is made of: the static library over trestlepip.
+EXPORTS=trestlepip_c
 LEVEL=-O2
 TRAPS=''
-
-# rt proves the crates of a level of crates.txt so many at a time, and waits for all of them before it goes on. No level has more than three: fewer at a
-# time, as rt chooses on two processors, leave one idle.
-export RT_JOBS="${RT_JOBS:-4}"
 
 # The command that the messages are of: the one that someone called, also where it calls another script.
 SAYS=${SAYS:-${0##*/}}
@@ -85,9 +83,9 @@ need() { # COMMAND...
     [ -z "$missing" ] || install_packages $missing
 }
 
-# The sum of the contents of these files and of all below these folders, with their names; wrong edits are no part of a crate.
+# The sum of the contents of these files and of all below these folders, with their names; wrong edits, and what rt keeps, are no part of a crate.
 sum_of() { # FILE | FOLDER...
-    find "$@" -type f ! -path '*/must-fail/*' | LC_ALL=C sort | tr '\n' '\0' | xargs -0 sha256sum | sha256sum | cut -d' ' -f1
+    find "$@" \( -name must-fail -o -name out \) -prune -o -type f -print | LC_ALL=C sort | tr '\n' '\0' | xargs -0 sha256sum | sha256sum | cut -d' ' -f1
 }
 
 # Whether the file that is built was built with this sum.
@@ -117,26 +115,25 @@ lock() {
 
 unlock() { exec 9>&-; }
 
-# The crate whose log rt wrote last.
+# The crate that rt lib has come to.
 rt_is_at() {
-    # shellcheck disable=SC2012
-    ls -t target/log/*.say 2>/dev/null | sed -n '1s,^target/log/,,; 1s,\.say$,,; 1p'
+    { echo "$EXPORTS"; sed -n 's/^rt: chose --jobs [0-9]* for //p; s/^rt: \([a-z_0-9]*\): begins with .*/\1/p' "$BUILD/rt.out"; } | tail -n 1
 }
 
 # Says what rt is at and for how long so far: on a terminal in one line that is written anew, else every 30 s. Ends with the script that called it.
-watch_rt() {
+watch_rt() { # COMMAND WORD...
     began=$(date +%s) ticks=0
     while sleep 1 >/dev/null 2>&1 && kill -0 $$ 2>/dev/null; do
         ticks=$((ticks + 1))
         # shellcheck disable=SC2059
-        line=$(printf "$says_proving" "$(rt_is_at)" $(($(date +%s) - began)))
+        line=$(printf "$says_proving" "$("$@")" $(($(date +%s) - began)))
         if [ -t 2 ]; then printf '\r\033[K%s' "$line" >&2; elif [ $((ticks % 30)) -eq 1 ]; then echo "$line" >&2; fi
     done
 }
 
-# Shows on standard error what rt is at, until end_progress.
-show_progress() {
-    watch_rt 9>&- &
+# Shows on standard error what rt is at, which the command says, until end_progress.
+show_progress() { # COMMAND WORD...
+    watch_rt "$@" 9>&- &
     watcher=$!
 }
 
@@ -146,12 +143,17 @@ end_progress() {
     [ ! -t 2 ] || printf '\r\033[K' >&2
 }
 
-# The crates that a crate stands on.
+# The crates of the repository that a crate stands on, directly or through others.
 below() { # NAME
-    listed=$(sed -n "s/^$1://p" crates.txt)
-    for other in $listed; do
-        [ ! -d "crates/$other" ] || echo "$other"
-    done
+    awk -F: -v name="$1" '
+        function visit(one,    n, i, use) {
+            n = split(uses[one], use, " ")
+            for (i = 1; i <= n; i++) if (use[i] in uses && !(use[i] in met)) { met[use[i]]; visit(use[i]); print use[i] }
+        }
+        { sub(/#.*/, "") }
+        NF > 1 { split($1, word, " "); uses[word[1]] = $2 }
+        END { visit(name) }
+    ' crates.txt
 }
 
 # The sum of a crate and of those that it stands on.
@@ -160,50 +162,20 @@ crate_sum() { # NAME
     sum_of crates.txt $(for one in "$1" $(below "$1"); do echo "crates/$one"; done)
 }
 
-# The first of the crates that a crate stands on of which rt has left no proof; the stamp comes last.
-unproved() { # NAME
-    for other in $(below "$1"); do
-        if [ -f "target/stamp/$other" ] && [ -d "target/rlib/$other.rlib" ]; then continue; fi
-        echo "$other"
-        return
-    done
-}
-
-# Removes the stamps of crates that have changed since the library was built: rt proves those anew, and a stamp is then the sign that it has.
-drop_old_stamps() {
-    for stamp in target/stamp/*; do
-        [ -e "$stamp" ] || continue
-        name=${stamp##*/}
-        [ "$(cat "$BUILD/sums/$name" 2>/dev/null)" = "$(crate_sum "$name")" ] || rm -f "$stamp"
-    done
-}
-
-# Keeps the sum of each crate that the library stands on, as it is proved now.
-keep_sums() {
-    mkdir -p "$BUILD/sums"
-    for name in $(below trestlepip); do crate_sum "$name" >"$BUILD/sums/$name"; done
-}
-
-# Proves the crates that the library stands on, several at a time, then the library, and writes its archive.
-prove_library() {
-    # shellcheck disable=SC2046
-    rt check $(sed -n 's/^trestlepip://p' crates.txt) && rt staticlib trestlepip
-}
-
 # Whether the library's archive is that of the sources as they are.
-is_built() { is_fresh "$LIBRARY" "$(crate_sum trestlepip)"; }
+is_built() { is_fresh "$LIBRARY" "$(crate_sum "$EXPORTS")"; }
 
-# Has the library proved. What rt says is kept, and shown if it refuses.
+# Has the library proved, with the crates that it stands on, and its archive made. What rt says is kept, and shown if it refuses.
 make_library() {
     need rt
-    sum=$(crate_sum trestlepip) status=0
-    show_progress
-    prove_library >"$BUILD/rt.out" 2>&1 || status=$?
+    sum=$(crate_sum "$EXPORTS") status=0
+    : >"$BUILD/rt.out"
+    show_progress rt_is_at
+    (cd "crates/$EXPORTS" && rt lib) >"$BUILD/rt.out" 2>&1 || status=$?
     end_progress
     [ "$status" -eq 0 ] || { cat "$BUILD/rt.out" >&2; stop "$says_refused"; }
-    cp target/staticlib/libtrestlepip.a "$BUILD/new.a"
+    cp "crates/$EXPORTS/out/lib$EXPORTS.a" "$BUILD/new.a"
     put "$BUILD/new.a" "$LIBRARY" "$sum"
-    keep_sums
 }
 
 # The library, unless it is built.
