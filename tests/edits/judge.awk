@@ -7,10 +7,10 @@ BEGIN {
 
 function ends(text, tail) { return substr(text, length(text) - length(tail) + 1) == tail }
 
-# Where the errors of WHO stand: those of a function fill its files of proofs, those of a theorem name it.
+# Where the errors of WHO stand: those of a function fill its files of proofs, those of a theorem name it, or a part of it.
 function look_for(who,    dot) {
     dot = index(who, ".")
-    theorem = dot ? "`" substr(who, dot + 1) "`: " : ""
+    theorem = dot ? "`" substr(who, dot + 1) "(-part-[0-9]+)?`: " : ""
     place = dot ? substr(who, 1, dot - 1) : who
     gsub(/::/, "/", place)
 }
@@ -26,7 +26,7 @@ function is_error(    at) {
 }
 
 function is_own(    folder) {
-    if (theorem != "") return path == "proofs/" place ".antt" && index(said, theorem) == 1
+    if (theorem != "") return path == "proofs/" place ".antt" && match(said, theorem) == 1
     folder = path
     return sub(/\/(Answers|Invariants|Proof)\.antt$/, "", folder) && ends("/" folder, "/" place)
 }

@@ -78,12 +78,7 @@ pub fn trestlepip_release(
 }
 
 // A page passed the transfer station.
-pub fn trestlepip_transferred(
-    state: &mut [u8],
-    page: &[u8],
-    legends: &[u8],
-    tables: &[u8],
-) -> u64
+pub fn trestlepip_transferred(state: &mut [u8], page: &[u8], legends: &[u8], tables: &[u8]) -> u64
     ensures { let m = stores_of page.now legends.now tables.now in
         called result [] state.new m ≡ call_bytes state.old m (tally Transferred) }
 {
@@ -91,12 +86,7 @@ pub fn trestlepip_transferred(
 }
 
 // A page passed the fuser.
-pub fn trestlepip_fused(
-    state: &mut [u8],
-    page: &[u8],
-    legends: &[u8],
-    tables: &[u8],
-) -> u64
+pub fn trestlepip_fused(state: &mut [u8], page: &[u8], legends: &[u8], tables: &[u8]) -> u64
     ensures { let m = stores_of page.now legends.now tables.now in
         called result [] state.new m ≡ call_bytes state.old m (tally Fused) }
 {
@@ -104,12 +94,7 @@ pub fn trestlepip_fused(
 }
 
 // A page came to the stacker.
-pub fn trestlepip_stacked(
-    state: &mut [u8],
-    page: &[u8],
-    legends: &[u8],
-    tables: &[u8],
-) -> u64
+pub fn trestlepip_stacked(state: &mut [u8], page: &[u8], legends: &[u8], tables: &[u8]) -> u64
     ensures { let m = stores_of page.now legends.now tables.now in
         called result [] state.new m ≡ call_bytes state.old m (tally Stacked) }
 {
@@ -117,12 +102,7 @@ pub fn trestlepip_stacked(
 }
 
 // Pages that have not passed transfer are given up.
-pub fn trestlepip_cancel(
-    state: &mut [u8],
-    page: &[u8],
-    legends: &[u8],
-    tables: &[u8],
-) -> u64
+pub fn trestlepip_cancel(state: &mut [u8], page: &[u8], legends: &[u8], tables: &[u8]) -> u64
     ensures { let m = stores_of page.now legends.now tables.now in
         called result [] state.new m ≡ call_bytes state.old m (tally Cancel) }
 {
@@ -130,12 +110,7 @@ pub fn trestlepip_cancel(
 }
 
 // Pages that are not stacked are given up.
-pub fn trestlepip_restart(
-    state: &mut [u8],
-    page: &[u8],
-    legends: &[u8],
-    tables: &[u8],
-) -> u64
+pub fn trestlepip_restart(state: &mut [u8], page: &[u8], legends: &[u8], tables: &[u8]) -> u64
     ensures { let m = stores_of page.now legends.now tables.now in
         called result [] state.new m ≡ call_bytes state.old m (tally Restart) }
 {
@@ -143,13 +118,7 @@ pub fn trestlepip_restart(
 }
 
 // Feet of paper for a transmission. No store is lent.
-pub fn trestlepip_feet(
-    initial: u16,
-    last: u16,
-    copies: u32,
-    form: u32,
-    feet: &mut f64,
-) -> u64
+pub fn trestlepip_feet(initial: u16, last: u16, copies: u32, form: u32, feet: &mut f64) -> u64
     ensures { told result feet.new ≡ feet_told (sent initial last copies form) }
 {
     serve::feet(initial, last, copies, form, feet)
