@@ -165,13 +165,14 @@ crate_sum() { # NAME
 # Whether the library's archive is that of the sources as they are.
 is_built() { is_fresh "$LIBRARY" "$(crate_sum "$EXPORTS")"; }
 
-# Has the library proved, with the crates that it stands on, and its archive made. What rt says is kept, and shown if it refuses.
+# Has the library proved, with the crates that it stands on, and its archive made, for any x86-64 processor: left to itself rt asks for one of level v2,
+# with which the library is slower. What rt says is kept, and shown if it refuses.
 make_library() {
     need rt
     sum=$(crate_sum "$EXPORTS") status=0
     : >"$BUILD/rt.out"
     show_progress rt_is_at
-    (cd "crates/$EXPORTS" && rt lib) >"$BUILD/rt.out" 2>&1 || status=$?
+    (cd "crates/$EXPORTS" && rt lib --cpu=x86-64) >"$BUILD/rt.out" 2>&1 || status=$?
     end_progress
     [ "$status" -eq 0 ] || { cat "$BUILD/rt.out" >&2; stop "$says_refused"; }
     cp "crates/$EXPORTS/out/lib$EXPORTS.a" "$BUILD/new.a"
