@@ -1,11 +1,11 @@
 -- The record's codes stand over the front of a line of stand-ins; they are mended, or none of them is unprintable.
-use Prim.Native.Nat.{ℕ, zero, suc, ◌-◌, ◌≤◌}
+use Prim.Native.Nat.{ℕ, zero, suc, ◌-◌, ◌*◌, ◌≤◌}
 use mathlib.Core.Path.{◌≡◌, sym, ap, ◌∙◌}
 use mathlib.Core.Bool.{cond, not, not-not}
 use mathlib.Core.List.{List, [], ◌∷◌, ◌++◌, map}
 use native.Mathlib.Nat.{sub-zero}
 use native.Mathlib.Omega.{arith}
-use lib.ListN.{length, get_or, take, replicate, length-map, length-replicate}
+use lib.ListN.{length, get_or, take, drop, replicate, length-map, length-replicate}
 use lib.Seq.{take_at, drop_at, length-take-le}
 use borrow.Author.Rules.{rules}
 use Rattle.seq.proofs.Laws.{or_left, or_right, drop-replicate}
@@ -23,9 +23,24 @@ codes-bytes t [] h k = omega arith
 codes-bytes t (b ∷ r) h zero = h b
 codes-bytes t (b ∷ r) h (suc k) = codes-bytes t r h k
 
--- after the look_up: the record's codes, and stand-ins behind them
+-- behind the record's codes, stand-ins
 abbrev fill : List ℕ → List ℕ → List ℕ → List ℕ
 fill ps t r = replicate (line_width - length r) (stand_in ps t)
+
+-- after the look_up: the record's codes over the front of a line of stand-ins
+looked-up : (ps t r : List ℕ) (other : ℕ) (out new : List ℕ)
+    → length r ≤ line_width → other ≡ stand_in ps t → out ≡ plain (replicate line_width other)
+    → ((cs : List ℕ) → length cs ≡ length r → take (2 * length r - 0) out ≡ plain cs → new ≡ plain (codes t r))
+    → new ++ drop (2 * length r - 0) out ≡ plain (codes t r ++ fill ps t r)
+looked-up ps t r other out new fits stands whole cells =
+    let n = length r in
+    let line = replicate line_width other in
+    let there : length line ≡ line_width = length-replicate line_width other in
+    let short = length-take-le (n - 0) line (omega arith) ∙ sub-zero n in
+    let back = cells (take (n - 0) line) short (plain-lent 0 n line out whole) in
+    let left : line_width - (n - 0) ≡ line_width - n = omega arith in
+    let behind = drop-replicate (n - 0) line_width other ∙ (λ j. replicate (left j) (stands j)) in
+    plain-put 0 n line out whole (codes t r) new back ∙ ap (λ (l : List ℕ). plain (codes t r ++ l)) behind
 
 pub returns-then-top-fitted : goal.returns-then-top-fitted
 unfolding line_codes
@@ -37,29 +52,10 @@ returns-then-top-fitted c = let a = c.args in
     let cs = codes t r in
     let long : length cs ≡ n - 0 = length-map r _ ∙ sym (sub-zero n) in
     let line = cs ++ fill ps t r in
-    let lent = plain-lent 0 n line _ (let a = c.args in
-    let n = length a.sent.now in
-    let other = c.stand_in-other.result in
-    let line = replicate line_width other in
-    let there : length line ≡ line_width = length-replicate line_width other in
-    let short = length-take-le (n - 0) line (omega arith) ∙ sub-zero n in
-    let back = c.look_up-top.ensures.cells (take (n - 0) line) short (plain-lent 0 n line c.fill.new.cells c.fill.ensures) in
-    let left : line_width - (n - 0) ≡ line_width - n = omega arith in
-    let behind = drop-replicate (n - 0) line_width other ∙ (λ j. replicate (left j) (c.stand_in-other.ensures j)) in
-    plain-put 0 n line c.fill.new.cells c.fill.ensures (codes a.table.now a.sent.now) _ back
-    ∙ ap (λ (l : List ℕ). plain (codes a.table.now a.sent.now ++ l)) behind) ∙ ap plain (take_at cs (fill ps t r) (n - 0) long) in
+    let filled = looked-up ps t r _ _ _ (omega arith) c.stand_in-other.ensures c.fill.ensures c.look_up-top.ensures.cells in
+    let lent = plain-lent 0 n line _ filled ∙ ap plain (take_at cs (fill ps t r) (n - 0) long) in
     let mended = c.mend.ensures.cells cs lent ∙ (λ j. plain (map (λ x. cond (unprintable ps x) (c.stand_in-other.ensures j) x) cs)) ∙ ap plain (replaced-codes ps t r) in record {
-      cells = plain-put 0 n line _ (let a = c.args in
-          let n = length a.sent.now in
-          let other = c.stand_in-other.result in
-          let line = replicate line_width other in
-          let there : length line ≡ line_width = length-replicate line_width other in
-          let short = length-take-le (n - 0) line (omega arith) ∙ sub-zero n in
-          let back = c.look_up-top.ensures.cells (take (n - 0) line) short (plain-lent 0 n line c.fill.new.cells c.fill.ensures) in
-          let left : line_width - (n - 0) ≡ line_width - n = omega arith in
-          let behind = drop-replicate (n - 0) line_width other ∙ (λ j. replicate (left j) (c.stand_in-other.ensures j)) in
-          plain-put 0 n line c.fill.new.cells c.fill.ensures (codes a.table.now a.sent.now) _ back
-          ∙ ap (λ (l : List ℕ). plain (codes a.table.now a.sent.now ++ l)) behind) (translated ps t r) _ mended
+      cells = plain-put 0 n line _ filled (translated ps t r) _ mended
           ∙ ap (λ (l : List ℕ). plain (translated ps t r ++ l)) (drop_at cs (fill ps t r) (n - 0) long);
       found = c.mend.ensures.found cs lent ∙ ap told (unprintable-codes ps t r);
     }
@@ -77,16 +73,7 @@ returns c = let a = c.args in
     let bytes = codes-bytes t r (λ i. omega (arith, c.shared_slice_known-2-1.given i)) in
     let none = fitted-any ps (codes t r) (search rules) bytes fitted ∙ sym c.look_up-top.ensures.top ∙ low in
     record {
-      cells = (let a = c.args in
-          let n = length a.sent.now in
-          let other = c.stand_in-other.result in
-          let line = replicate line_width other in
-          let there : length line ≡ line_width = length-replicate line_width other in
-          let short = length-take-le (n - 0) line (omega arith) ∙ sub-zero n in
-          let back = c.look_up-top.ensures.cells (take (n - 0) line) short (plain-lent 0 n line c.fill.new.cells c.fill.ensures) in
-          let left : line_width - (n - 0) ≡ line_width - n = omega arith in
-          let behind = drop-replicate (n - 0) line_width other ∙ (λ j. replicate (left j) (c.stand_in-other.ensures j)) in
-          plain-put 0 n line c.fill.new.cells c.fill.ensures (codes a.table.now a.sent.now) _ back
-          ∙ ap (λ (l : List ℕ). plain (codes a.table.now a.sent.now ++ l)) behind) ∙ ap (λ (l : List ℕ). plain (l ++ fill ps t r)) (printable-codes ps t r none);
+      cells = looked-up ps t r _ _ _ (omega arith) c.stand_in-other.ensures c.fill.ensures c.look_up-top.ensures.cells
+          ∙ ap (λ (l : List ℕ). plain (l ++ fill ps t r)) (printable-codes ps t r none);
       found = ap told (sym (printable-none ps t r none));
     }
