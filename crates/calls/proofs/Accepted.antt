@@ -8,10 +8,10 @@ use lib.Dec.{eqb}
 use lib.ListN.{length}
 use borrow.Author.Tests.{not-false, eqb-false, ltb-false}
 use Rattle.seq.specs.Words.{when, first_or}
+use Rattle.std.specs.Prelude.{Ok}
 use Rattle.seq.proofs.Laws.{and_left, and_right, or_left, or_right, passed}
 use Rattle.numbers.specs.Sizes.{line_bytes, legend_size}
 use Rattle.numbers.specs.declared.Cause.{Cause}
-use Rattle.numbers.specs.declared.Checked.TheVariants.{Sound}
 use Rattle.numbers.specs.declared.Refusal.TheVariants.{Accepted, NotListed, BadRecord, LoadCheck, PageWaiting, PageStarted, TooShort, BadStore, TwoPages}
 use Rattle.numbers.specs.Numbers.{row_of, number_of, is_accepted, checked}
 use Rattle.numbers.proofs.Laws.{accepted-is, not-accepted, passed-check, goes_on}
@@ -26,7 +26,8 @@ use Rattle.calls.specs.Core.{Stores, Core, P}
 use Rattle.calls.specs.Commands.{Issued, decode}
 use Rattle.calls.specs.Contents.{core_ok}
 use Rattle.calls.specs.Calls.{command, release, tally, bad_record, check_of, command_tests, compose_tests, refusal_of}
-use Rattle.calls.specs.Start.{Asked, skip_ok, start_refusal, start_world, start_outcome}
+use Rattle.calls.specs.Start.{skip_ok, start_refusal, start_world, start_outcome}
+use Rattle.calls.specs.declared.Asked.{Asked}
 use Rattle.calls.specs.Premises.{Allowed, Composable, Startable}
 
 pub allowed-by : (k : Core) (c : Command) (i : Issued) → first_or Accepted (command_tests k c i) ≡ Accepted → Allowed k c i
@@ -46,7 +47,7 @@ unfolding refusal_of
 allowed k i e = allowed-by k (decode i.byte) i (accepted-is _ e)
 
 -- A load check is given to a load alone, so to a record of at most 8,192 bytes.
-no-check : (a b : Bool) {x : Cause} → first_or Accepted (checked Sound ∷ when a TooShort ∷ when b TwoPages ∷ []) ≡ LoadCheck x → ⊥
+no-check : (a b : Bool) {x : Cause} → first_or Accepted (checked (Ok tt) ∷ when a TooShort ∷ when b TwoPages ∷ []) ≡ LoadCheck x → ⊥
 unfolding first_or checked row_of
 no-check a b e =
     let h : ◌≡◌ {A = ℕ} 0 3 = ap number_of (goes_on TwoPages b [] refl (goes_on TooShort a (when b TwoPages ∷ []) refl e).1).1 in

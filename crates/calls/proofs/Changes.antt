@@ -9,9 +9,9 @@ use lib.ListN.{length}
 use lib.Dec.{eqb, leb, ltb}
 use borrow.Author.Tests.{leb-true, ltb-false}
 use Rattle.seq.specs.Words.{all, empty}
+use Rattle.std.specs.Prelude.{Ok}
 use Rattle.seq.proofs.Laws.{and_left, and_right, or_right, cond_has}
 use Rattle.numbers.specs.Sizes.{line_width, legend_size}
-use Rattle.numbers.specs.declared.Checked.TheVariants.{Sound}
 use Rattle.numbers.specs.Numbers.{row_of, is_accepted}
 use Rattle.movement.specs.declared.Motion.{Motion}
 use Rattle.movement.specs.declared.Moved.{Moved}
@@ -54,7 +54,7 @@ pub record Survives (Q : Core → Type 0) : Type 0 where
   pub reset : {k : Core} → Good k → Free k → Unused k → Q k → Q (reset k)
   pub block : {k : Core} (b : Bool) → Good k → Q k → Q (with_state k (with_blocked k.state b))
   pub select : {k : Core} (n : ℕ) → Good k → n ≤ 3 → Q k → Q (with_state k (with_slots k.state (slot_selected k.state.slots n)))
-  pub load : {k : Core} (l : Load) (r : List ℕ) → Good k → started k.state.sheet ≡ false → load_check k.state l r ≡ Sound → length r ≤ legend_size
+  pub load : {k : Core} (l : Load) (r : List ℕ) → Good k → started k.state.sheet ≡ false → load_check k.state l r ≡ Ok tt → length r ≤ legend_size
       → Q k → Q (loaded k l r)
   pub count : {k : Core} → Good k → most_between k.state.counters ≡ false → Q k → Q (page_counted k)
   pub empty : {k : Core} → Good k → Q k → Q (emptied k)

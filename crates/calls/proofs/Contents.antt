@@ -7,7 +7,7 @@ use mathlib.Core.List.{List, [], ◌∷◌, ◌++◌, map, flatten}
 use lib.ListN.{length, set, replicate}
 use Rattle.seq.specs.Words.{when, first_or, every, from, zeros, padded}
 use Rattle.numbers.specs.Sizes.{line_width, line_bytes, page_lines, page_size, legend_size, table_size}
-use Rattle.numbers.specs.Numbers.{row_of, number_of, is_sound}
+use Rattle.numbers.specs.Numbers.{row_of, number_of}
 use Rattle.form.specs.Form.{form_lengths, pitches_listed, pitches_ok, form_ok, units_of, runs_from, runs, units_total, lines_where, printable, edges, fcb_check, layout_check, layout_of, start_fcb, fcb_size, forms_of, forms_in_range}
 use Rattle.line.specs.Cells.{ruled, stored, cells_in, marks_ok}
 use Rattle.line.specs.Line.{start_table, start_tables, start_slots, slots_in_range}
@@ -110,7 +110,7 @@ unbroken =
 -- Broken contents break the one clause, and no other; what is allowed breaks none.
 pub clauses-table : (map (λ b. clauses b.core) broken ≡ map (λ b. set (replicate 9 true) b.clause false) broken)
     × (map clauses unbroken ≡ replicate 14 (replicate 9 true))
-unfolding broken unbroken flatten when first_or every padded is_sound form_lengths pitches_listed pitches_ok form_ok units_of runs_from runs units_total lines_where printable edges fcb_check layout_check layout_of start_fcb forms_of forms_in_range start_table start_tables start_slots slots_in_range pairs_of copies_of sequence_check start_copies copies_in_range bad_head cut segments legend_check stored_segments legends_ok no_legends sizes_ok lines_now line_ok ranges_ok due_ok written_ok blank_sheet no_cells reset_state reset_stores fresh counters_ok stored cells_in marks_ok
+unfolding broken unbroken flatten when first_or every padded form_lengths pitches_listed pitches_ok form_ok units_of runs_from runs units_total lines_where printable edges fcb_check layout_check layout_of start_fcb forms_of forms_in_range start_table start_tables start_slots slots_in_range pairs_of copies_of sequence_check start_copies copies_in_range bad_head cut segments legend_check stored_segments legends_ok no_legends sizes_ok lines_now line_ok ranges_ok due_ok written_ok blank_sheet no_cells reset_state reset_stores fresh counters_ok stored cells_in marks_ok
 clauses-table = (refl, refl)
 
 -- All codes in cells and all table bytes are allowed: of a page the marks alone count. (So is all legend text: `stored_ok` holds whatever the text is

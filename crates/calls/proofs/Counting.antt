@@ -28,7 +28,8 @@ use Rattle.calls.specs.Contents.{core_ok}
 use Rattle.calls.specs.Reset.{reset_state, reset, fresh}
 use Rattle.calls.specs.Effects.{Effect, refused, done, written, loaded, do_move, do_write, do_load, completing, do_control, do_command}
 use Rattle.calls.specs.Calls.{Call, command, compose, release, tally, refusal_of, do_compose, page_counted, emptied, released, do_release, tallying, do_tally, perform, effect, step}
-use Rattle.calls.specs.Start.{Asked, start_refusal, start_world, start_outcome}
+use Rattle.calls.specs.Start.{start_refusal, start_world, start_outcome}
+use Rattle.calls.specs.declared.Asked.{Asked}
 use Rattle.calls.specs.Premises.{Good}
 use Rattle.calls.specs.Lists.{world_after}
 use Rattle.calls.specs.Pages.{counters_by, Pages, no_pages, pages_by_tally, pages_by, pages_over}

@@ -13,7 +13,8 @@ use Rattle.calls.specs.Commands.{issued, codes, look_up, decode}
 use Rattle.calls.specs.Reset.{fresh, sense_bytes}
 use Rattle.calls.specs.Effects.{Effect, refused, do_control, do_command}
 use Rattle.calls.specs.Calls.{Call, compose, do_compose, perform, effect, over, step, command, lent}
-use Rattle.calls.specs.Start.{Asked, fixed_by, start_refusal, start_kept, start_world, start_outcome}
+use Rattle.calls.specs.Start.{fixed_by, start_refusal, start_kept, start_world, start_outcome}
+use Rattle.calls.specs.declared.Asked.{Asked}
 use Rattle.calls.specs.Lists.{world_after, gives, since_reset}
 use Rattle.calls.proofs.Accepted.{started-world}
 use Rattle.calls.proofs.Refused.{by-outcome}

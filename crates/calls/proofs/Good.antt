@@ -10,10 +10,10 @@ use lib.Dec.{lit≤, eqb}
 use lib.Seq.{length-take-le}
 use borrow.Author.Tests.{eqb-true, eq-eqb, leb-true, le-leb}
 use Rattle.seq.specs.Words.{every, when, first_or, listed, padded}
+use Rattle.std.specs.Prelude.{Ok}
 use Rattle.seq.proofs.Laws.{every-at, padded-take, padded-zero, cond_has, finally, also, every_of}
 use Rattle.numbers.specs.Sizes.{line_bytes, page_lines, page_size, legend_size, line_width, slot_size, table_size}
-use Rattle.numbers.specs.declared.Checked.TheVariants.{Sound}
-use Rattle.numbers.specs.Numbers.{is_sound, is_accepted}
+use Rattle.numbers.specs.Numbers.{is_accepted}
 use Rattle.numbers.proofs.Laws.{sound-is}
 use Rattle.form.specs.declared.Layout.{Layout}
 use Rattle.form.specs.Form.{form_lengths, fcb_check, layout_of, printable, start_fcb, fcb_size, fcb_now, forms_of, forms_in_range}
@@ -46,7 +46,8 @@ use Rattle.calls.specs.Contents.{line_ok, ranges_ok, due_ok, written_ok, core_ok
 use Rattle.calls.specs.Reset.{blank_sheet, no_cells, Kept, kept_of, reset_state, reset_stores, reset, fresh}
 use Rattle.calls.specs.Effects.{moved_sheet, moved_core, move_of, at_once, written_sheet, written, load_check, at_line1, slot_loaded, slot_selected, loaded}
 use Rattle.calls.specs.Calls.{page_counted, emptied, tallying}
-use Rattle.calls.specs.Start.{Asked, fixed_by, start_refusal, start_kept, start_world}
+use Rattle.calls.specs.Start.{fixed_by, start_refusal, start_kept, start_world}
+use Rattle.calls.specs.declared.Asked.{Asked}
 use Rattle.calls.specs.Premises.{Sizes, FormsGood, CopiesGood, SheetGood, FixedGood, Good, Free}
 use Rattle.calls.proofs.Standing.{at-once-has}
 use Rattle.calls.proofs.Accepted.{startable}
@@ -82,7 +83,7 @@ good k e =
     }
 
 pub ok : (k : Core) → Good k → core_ok k ≡ true
-unfolding core_ok ranges_ok every is_sound
+unfolding core_ok ranges_ok every
 ok k g =
     let x = g.sheet in
     rw (sizes-ok _ g.sizes, g.fixed, g.forms.range, g.slots, g.copies.range, line_ok_lem _ k.state.sheet x.low x.high, x.due, x.written, g.forms.sound, g.copies.sound, g.legends, g.counters, g.marks)
@@ -92,7 +93,7 @@ pub forms-now : (r : List ℕ) → fcb_now (forms_of r) ≡ r
 unfolding forms_of
 forms-now r = padded-take fcb_size r
 
-module _ (len : ℕ) (r : List ℕ) (l : listed form_lengths len ≡ true) (e : fcb_check len r ≡ Sound) where
+module _ (len : ℕ) (r : List ℕ) (l : listed form_lengths len ≡ true) (e : fcb_check len r ≡ Ok tt) where
   pub forms-good : FormsGood len (forms_of r)
   unfolding forms_in_range forms_of every
   forms-good =
@@ -256,7 +257,7 @@ slot_of : (s : Slots) → slots_in_range s ≡ true → s.selected ≤ 3
 unfolding slots_in_range
 slot_of s e = leb-true _ _ (every-at 1 _ e)
 
-sequence-good : {c : Copies} (r : List ℕ) → sequence_check r ≡ Sound → CopiesGood c → CopiesGood (with_sequence c r)
+sequence-good : {c : Copies} (r : List ℕ) → sequence_check r ≡ Ok tt → CopiesGood c → CopiesGood (with_sequence c r)
 unfolding copies_in_range with_sequence
 sequence-good r e g =
     record {
@@ -264,7 +265,7 @@ sequence-good r e g =
       sound = rw (padded-take pair_size r) e;
     }
 
-reference-good : {c : Copies} (r : List ℕ) → number_check r ≡ Sound → CopiesGood c → CopiesGood (with_reference c (get_or r 0 0))
+reference-good : {c : Copies} (r : List ℕ) → number_check r ≡ Ok tt → CopiesGood c → CopiesGood (with_reference c (get_or r 0 0))
 unfolding copies_in_range with_reference
 reference-good r e g =
     record {
@@ -272,7 +273,7 @@ reference-good r e g =
       sound = g.sound;
     }
 
-pub good-load : {k : Core} (l : Load) (r : List ℕ) → Good k → load_check k.state l r ≡ Sound → length r ≤ legend_size → Good (loaded k l r)
+pub good-load : {k : Core} (l : Load) (r : List ℕ) → Good k → load_check k.state l r ≡ Ok tt → length r ≤ legend_size → Good (loaded k l r)
 unfolding load_check loaded lines_now at_line1 due_ok written_ok
 good-load {k} Fcb r g e h =
     let len = k.state.fixed.length in

@@ -10,7 +10,7 @@ use lib.ListN.{length, length-set}
 use lib.Dec.{eqb, lit≤}
 use borrow.Author.Tests.{eqb-true, not-false}
 use Rattle.seq.proofs.Laws.{or_left, length-padded}
-use Rattle.numbers.specs.declared.Checked.TheVariants.{Sound}
+use Rattle.std.specs.Prelude.{Ok}
 use Rattle.numbers.specs.Numbers.{number_of, is_accepted}
 use Rattle.form.specs.Form.{start_fcb, fcb_size, forms_of}
 use Rattle.form.proofs.FormLaws.{form-listed, fcb-fits, start-sound}
@@ -28,7 +28,8 @@ use Rattle.calls.specs.Core.{Core, World, started, Stores}
 use Rattle.calls.specs.Reset.{blank_sheet, no_cells, Kept, kept_of, reset_state, reset_stores, reset}
 use Rattle.calls.specs.Effects.{moved_sheet, written_sheet, written, load_check, slot_loaded, slot_selected, loaded}
 use Rattle.calls.specs.Calls.{Call, page_counted, emptied, tallying, effect, step}
-use Rattle.calls.specs.Start.{Asked, start_refusal, start_world, start_outcome}
+use Rattle.calls.specs.Start.{start_refusal, start_world, start_outcome}
+use Rattle.calls.specs.declared.Asked.{Asked}
 use Rattle.calls.specs.Premises.{FixedGood, Good, Sized, Free}
 use Rattle.calls.specs.Lists.{world_after}
 use Rattle.calls.proofs.Accepted.{started-world}
@@ -101,7 +102,7 @@ reset-sized f kept e h =
       fcb = length-padded fcb_size _ (fcb-fits f.length (start_fcb f.length) l (start-sound f.length l));
     }
 
-load_sized : {k : Core} (l : Load) (r : List ℕ) → Good k → load_check k.state l r ≡ Sound → Sized k.state → Sized (loaded k l r).state
+load_sized : {k : Core} (l : Load) (r : List ℕ) → Good k → load_check k.state l r ≡ Ok tt → Sized k.state → Sized (loaded k l r).state
 unfolding load_check loaded forms_of slot_loaded with_sequence with_reference
 load_sized {k} Fcb r g e z =
     let len = k.state.fixed.length in

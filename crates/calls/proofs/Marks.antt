@@ -32,7 +32,8 @@ use Rattle.calls.specs.Commands.{Issued, decode, traits_of}
 use Rattle.calls.specs.Reset.{no_cells, reset_stores, reset, fresh}
 use Rattle.calls.specs.Effects.{Effect, refused, done, moved_sheet, written, written_sheet, do_move, do_write, do_load, do_control, do_command}
 use Rattle.calls.specs.Calls.{Call, command, compose, release, tally, refusal_of, do_compose, page_counted, emptied, released, do_release, tallying, do_tally, perform, effect}
-use Rattle.calls.specs.Start.{Asked, start_refusal, start_world, start_outcome}
+use Rattle.calls.specs.Start.{start_refusal, start_world, start_outcome}
+use Rattle.calls.specs.declared.Asked.{Asked}
 use Rattle.calls.specs.Premises.{Good, Allowed, Free}
 use Rattle.calls.specs.Lists.{world_after}
 use Rattle.calls.specs.Marks.{cell_in, cell_at, sent_at, mark_written, mark_commanded, mark_done, mark_by}

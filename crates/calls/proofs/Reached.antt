@@ -23,7 +23,8 @@ use Rattle.calls.specs.Contents.{core_ok}
 use Rattle.calls.specs.Reset.{blank_sheet, reset_state, reset_stores, fresh}
 use Rattle.calls.specs.Effects.{Effect, done, moved_sheet, move_of, written_sheet, written, do_write, completing, do_control, do_command}
 use Rattle.calls.specs.Calls.{Call, command, release, tally, check_of, refusal_of, page_counted, emptied, released, do_release, tallying, do_tally, perform, effect, step}
-use Rattle.calls.specs.Start.{Asked, fixed_by, start_refusal, start_world, start_outcome}
+use Rattle.calls.specs.Start.{fixed_by, start_refusal, start_world, start_outcome}
+use Rattle.calls.specs.declared.Asked.{Asked}
 use Rattle.calls.specs.Premises.{Good, Free}
 use Rattle.calls.specs.Lists.{world_after}
 use Rattle.calls.proofs.Accepted.{started-world}

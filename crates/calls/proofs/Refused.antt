@@ -24,7 +24,8 @@ use Rattle.calls.specs.Commands.{decode, control_traits}
 use Rattle.calls.specs.Contents.{ranges_ok, core_ok}
 use Rattle.calls.specs.Effects.{Effect, refused, move_of}
 use Rattle.calls.specs.Calls.{Call, command, compose, release, tally, movement, tests_of, refusal_of, do_compose, perform, size_of, effect, lent, Outcome, step}
-use Rattle.calls.specs.Start.{Asked, start_tests, start_refusal, no_state, no_printer, start_outcome}
+use Rattle.calls.specs.Start.{start_tests, start_refusal, no_state, no_printer, start_outcome}
+use Rattle.calls.specs.declared.Asked.{Asked}
 use Rattle.calls.proofs.Standing.{at-once-has}
 
 -- What a call does is what its refusal says, or what the accepted call does.

@@ -12,7 +12,7 @@ use Rattle.numbers.specs.declared.Answer.{Answer}
 use Rattle.numbers.specs.declared.Cause.TheVariants.{FcbSpacing, FcbSum, SequenceCounts, SegmentEnds, SegmentFields}
 use Rattle.numbers.specs.declared.Refusal.{Refusal}
 use Rattle.numbers.specs.declared.Refusal.TheVariants.{Accepted, NotListed, LoadCheck, PageWaiting, PageStarted, BadForm, NoneBetween}
-use Rattle.numbers.specs.Numbers.{sense3, no_sense, cause_of, row_of, is_accepted, checked, is_sound}
+use Rattle.numbers.specs.Numbers.{sense3, no_sense, cause_of, row_of, is_accepted, checked}
 use Rattle.form.specs.declared.Forms.{Forms}
 use Rattle.form.specs.Form.{form_lengths, pitches_listed, pitches_ok, form_ok, units_of, runs_from, runs, units_total, lines_where, printable, edges, fcb_check, layout_check, layout_of, channel_at, start_fcb, fcb_size, forms_of, forms_in_range}
 use Rattle.movement.specs.Movement.{entered, round, up_to_first, spaced, skipped, moved, is_there, still, to_top}
@@ -61,7 +61,7 @@ ran r (c ∷ cs) =
     ran (record { calls = r.calls ++ (c ∷ []); answers = r.answers ++ (o.answer ∷ []); buffer = o.buffer; world = o.world }) cs
 
 unfoldable pub see : Row → Row
-unfolding ran stored cells_in marks_ok flatten zip_with when first_or every padded cause_of row_of is_accepted checked is_sound form_lengths pitches_listed pitches_ok form_ok units_of runs_from runs units_total lines_where printable edges fcb_check layout_check layout_of channel_at start_fcb forms_of forms_in_range entered round up_to_first spaced skipped moved is_there still to_top slot_at put_slot is_loaded serving unprintable stand_in code_of translated unprintable_at line_codes merge_rules merge_cell collides merge_line any_collides cells_after line_at put_line page_written no_causes text_causes line_causes or_unmatched cause_byte start_table start_tables start_slots slots_in_range table_check pairs_of copies_of sequence_check mark_in number_check with_sequence with_reference start_copies copy_count copy_number copy_mark copies_in_range segment_of bad_head cut segments legend_check stored_legends unprintable_in_texts stored_segments legends_ok no_legends covers shown copy_from composed sizes_ok lines_now started codes look_up decode control_traits traits_of line_ok ranges_ok due_ok written_ok core_ok blank_sheet no_cells reset_state reset_stores reset fresh byte3 sense_bytes refused done moved_sheet move_of stands at_once do_move written_sheet written write_causes do_write load_check at_line1 slot_loaded slot_selected loaded load_causes do_load completing do_control do_command check_of movement refusal_of copy_at do_compose page_counted emptied released_core do_release tallying do_tally counted tallied transferred fused stacked cancelled restarted none_between counters_ok perform effect step skip_ok start_refusal start_world no_state no_printer start_outcome world_after counts read_of deed_of finishes_reset since_now note since_over since_reset copies_of_page given
+unfolding ran stored cells_in marks_ok flatten zip_with when first_or every padded cause_of row_of is_accepted checked form_lengths pitches_listed pitches_ok form_ok units_of runs_from runs units_total lines_where printable edges fcb_check layout_check layout_of channel_at start_fcb forms_of forms_in_range entered round up_to_first spaced skipped moved is_there still to_top slot_at put_slot is_loaded serving unprintable stand_in code_of translated unprintable_at line_codes merge_rules merge_cell collides merge_line any_collides cells_after line_at put_line page_written no_causes text_causes line_causes or_unmatched cause_byte start_table start_tables start_slots slots_in_range table_check pairs_of copies_of sequence_check mark_in number_check with_sequence with_reference start_copies copy_count copy_number copy_mark copies_in_range segment_of bad_head cut segments legend_check stored_legends unprintable_in_texts stored_segments legends_ok no_legends covers shown copy_from composed sizes_ok lines_now started codes look_up decode control_traits traits_of line_ok ranges_ok due_ok written_ok core_ok blank_sheet no_cells reset_state reset_stores reset fresh byte3 sense_bytes refused done moved_sheet move_of stands at_once do_move written_sheet written write_causes do_write load_check at_line1 slot_loaded slot_selected loaded load_causes do_load completing do_control do_command check_of movement refusal_of copy_at do_compose page_counted emptied released_core do_release tallying do_tally counted tallied transferred fused stacked cancelled restarted none_between counters_ok perform effect step skip_ok start_refusal start_world no_state no_printer start_outcome world_after counts read_of deed_of finishes_reset since_now note since_over since_reset copies_of_page given
 see r = ran (record { calls = []; answers = []; buffer = []; world = let f = r.world.core.state.fixed in begun f.pitches (bit f.old old_way) }) r.calls
 
 -- Calls: a command alone, one with a record, Sense into a buffer of a byte too many, Compose into an output of just the form's 15 lines.

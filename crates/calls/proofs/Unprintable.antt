@@ -9,9 +9,9 @@ use lib.ListN.{length}
 use lib.Dec.{eqb}
 use borrow.Author.Tests.{ltb-false}
 use Rattle.numbers.specs.Sizes.{legend_size}
+use Rattle.std.specs.Prelude.{Ok}
 use Rattle.numbers.specs.declared.Answer.{Answer}
 use Rattle.numbers.specs.declared.Sense.{Sense}
-use Rattle.numbers.specs.declared.Checked.TheVariants.{Sound}
 use Rattle.numbers.specs.Numbers.{is_accepted, sense_after}
 use Rattle.line.specs.declared.Unprintables.{Unprintables}
 use Rattle.line.specs.Line.{serving, unprintable_at, told, no_causes, text_causes, line_causes, or_unmatched}
@@ -130,7 +130,7 @@ tells_none k c e =
     (λ r. refl)
 
 -- Both are 0 or neither is; the first is a position of a line.
-load-tells : (k : Core) (l : Load) (r : List ℕ) → length r ≤ legend_size → load_check k.state l r ≡ Sound → Tells (told (in_load k l r))
+load-tells : (k : Core) (l : Load) (r : List ℕ) → length r ≤ legend_size → load_check k.state l r ≡ Ok tt → Tells (told (in_load k l r))
 unfolding load_check
 load-tells k Fcb r h e = none-tells
 load-tells k TranslateTable r h e = none-tells

@@ -1,12 +1,12 @@
 -- Document 01, "Calls" and "Numbers": the calls except Start, their refusals in order, and one step.
 use Rattle.std.specs.Prelude.{ℕ, ◌*◌, Bool, false, cond, not, ◌&&◌, ◌||◌, List, [], ◌∷◌, ◌++◌, length, drop, eqb, ltb}
+use Rattle.std.specs.Prelude.{Ok}
+use Rattle.numbers.specs.Numbers.{Checked}
 use Rattle.std.proofs.Math.Option.{Option}
 use Rattle.seq.specs.Words.{when, first_or, empty}
 use Rattle.numbers.specs.Sizes.{line_width, line_bytes, legend_size, sense_size}
 use Rattle.numbers.specs.declared.Answer.{Answer}
 use Rattle.numbers.specs.declared.Sense.{Sense}
-use Rattle.numbers.specs.declared.Checked.{Checked}
-use Rattle.numbers.specs.declared.Checked.TheVariants.{Sound}
 use Rattle.numbers.specs.declared.Refusal.{Refusal}
 use Rattle.numbers.specs.declared.Refusal.TheVariants.{Accepted, NotListed, BadRecord, PageWaiting, PageStarted, NoPage, BadIndex, TooShort, BadStore, TwoPages, NoneBetween, MostBetween}
 use Rattle.numbers.specs.declared.SenseStep.TheVariants.{Keep}
@@ -43,11 +43,11 @@ bad_record Unlisted i = false
 
 -- Numbers, 3: what a load's check finds.
 unfoldable pub check_of : State → Command → Issued → Checked
-check_of s (Write m) i = Sound
-check_of s (Move m) i = Sound
-check_of s (Controls c) i = Sound
+check_of s (Write m) i = Ok tt
+check_of s (Move m) i = Ok tt
+check_of s (Controls c) i = Ok tt
 check_of s (Loads l) i = load_check s l i.sent
-check_of s Unlisted i = Sound
+check_of s Unlisted i = Ok tt
 
 -- Numbers, 11: the movement that a command makes, with the pages that it completes.
 unfoldable pub movement : Core → Command → Moved

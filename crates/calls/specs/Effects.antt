@@ -1,12 +1,12 @@
 -- What each accepted command does: document 01, "Movement", "Writing a line", "Copies and legends", "Reset and sense" put together.
 use Rattle.std.specs.Prelude.{ℕ, ◌+◌, Bool, true, false, cond, not, ◌&&◌, ◌||◌, List, [], length, get_or, take, set, eqb}
+use Rattle.numbers.specs.Numbers.{Checked}
 use Rattle.seq.specs.Words.{bit}
 use Rattle.numbers.specs.Sizes.{slot_size}
 use Rattle.numbers.specs.declared.Sense.{Sense}
 use Rattle.numbers.specs.declared.Answer.{Answer}
 use Rattle.numbers.specs.declared.SenseStep.{SenseStep}
 use Rattle.numbers.specs.declared.SenseStep.TheVariants.{Keep, Anew}
-use Rattle.numbers.specs.declared.Checked.{Checked}
 use Rattle.numbers.specs.declared.Refusal.{Refusal}
 use Rattle.numbers.specs.declared.Refusal.TheVariants.{Accepted, NotListed}
 use Rattle.numbers.specs.Numbers.{sense3, no_sense, row_of, only}

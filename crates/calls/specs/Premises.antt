@@ -1,8 +1,8 @@
 -- What is known of contents that get no 9, of a state's arrays, and of a call that nothing refuses, each fact by its name. Contracts ask for these; the laws
 -- that give them are in proofs/Good, proofs/Invariants and proofs/Accepted.
 use Rattle.std.specs.Prelude.{ℕ, ◌*◌, ◌≤◌, ◌≡◌, true, false, not, ◌&&◌, List, length, ltb}
+use Rattle.std.specs.Prelude.{Ok}
 use Rattle.numbers.specs.Sizes.{line_bytes, page_size, legend_size, table_size, sense_size}
-use Rattle.numbers.specs.declared.Checked.TheVariants.{Sound}
 use Rattle.form.specs.declared.Forms.{Forms}
 use Rattle.form.specs.Form.{form_ok, fcb_check, fcb_size, fcb_now, forms_in_range}
 use Rattle.line.specs.Cells.{marks_ok}
@@ -19,7 +19,8 @@ use Rattle.calls.specs.Core.{Stores, Core, sizes_ok, P, started}
 use Rattle.calls.specs.Commands.{Issued, traits_of, is_unlisted, is_load}
 use Rattle.calls.specs.Contents.{due_ok, written_ok, core_ok}
 use Rattle.calls.specs.Calls.{bad_record, check_of}
-use Rattle.calls.specs.Start.{Asked, skip_ok}
+use Rattle.calls.specs.Start.{skip_ok}
+use Rattle.calls.specs.declared.Asked.{Asked}
 
 -- Contents that a printer can have, part by part.
 pub record Sizes (m : Stores) : Type 0 where
@@ -29,11 +30,11 @@ pub record Sizes (m : Stores) : Type 0 where
 
 pub record FormsGood (len : ℕ) (f : Forms) : Type 0 where
   pub range : forms_in_range f ≡ true
-  pub sound : fcb_check len (fcb_now f) ≡ Sound
+  pub sound : fcb_check len (fcb_now f) ≡ Ok tt
 
 pub record CopiesGood (c : Copies) : Type 0 where
   pub range : copies_in_range c ≡ true
-  pub sound : sequence_check (sequence_now c) ≡ Sound
+  pub sound : sequence_check (sequence_now c) ≡ Ok tt
 
 pub record SheetGood (p : ℕ) (s : Sheet) : Type 0 where
   pub low : 1 ≤ s.line
@@ -73,7 +74,7 @@ pub record Allowed (k : Core) (c : Command) (i : Issued) : Type 0 where
   pub free : (k.state.sheet.waiting && not (traits_of c).quiet) ≡ false
   pub sized : bad_record c i ≡ false
   pub unstarted : (is_load c && started k.state.sheet) ≡ false
-  pub sound : check_of k.state c i ≡ Sound
+  pub sound : check_of k.state c i ≡ Ok tt
   pub roomy : ((traits_of c).replies && ltb (length i.reply) sense_size) ≡ false
 
 pub record Composable (k : Core) (n : ℕ) (out : List ℕ) : Type 0 where

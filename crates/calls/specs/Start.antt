@@ -8,6 +8,7 @@ use Rattle.numbers.specs.Numbers.{no_sense, row_of, is_accepted, only}
 use Rattle.form.specs.Form.{form_ok, fcb_size}
 use Rattle.copies.specs.Copies.{pair_size}
 use Rattle.counters.specs.Counters.{start_counters}
+use Rattle.calls.specs.declared.Asked.{Asked}
 use Rattle.calls.specs.declared.Fixed.{Fixed}
 use Rattle.calls.specs.declared.State.{State}
 use Rattle.calls.specs.Core.{Stores, sizes_ok, World}
@@ -15,11 +16,6 @@ use Rattle.calls.specs.Reset.{Kept, fresh}
 use Rattle.calls.specs.Calls.{Outcome}
 
 -- Calls: what Start is asked for, the numbers as they were passed; and what it fixes.
-pub record Asked : Type 0 where
-  pub length : ℕ
-  pub pitches : List ℕ
-  pub skip : ℕ
-
 abbrev pub asked : ℕ → List ℕ → ℕ → Asked
 asked len ps skip = record { length = len; pitches = ps; skip = skip }
 

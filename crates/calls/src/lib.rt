@@ -10,6 +10,14 @@ use form::Forms;
 use line::Slots;
 use movement::Motion;
 
+// What Start is asked for, the numbers as they were passed.
+#[derive(Clone, Copy)]
+pub struct Asked {
+    pub length: u32,
+    pub pitches: [u32; 4],
+    pub skip: u32,
+}
+
 // What Start fixes: the form length in 24ths of an inch, the pitch of each module, 0 if it is not fitted, and whether immediate skips go the old way (T-05).
 #[derive(Clone, Copy)]
 pub struct Fixed {
@@ -26,7 +34,7 @@ impl Fixed {
 }
 
 // The form and the page in work: the current line, whether it is written on, whether a completed page waits, and whether its
-// Release is to reset. Lines are only left forwards, so whether another line is written is never asked.
+// Release is to reset. Lines are only left forwards, so whether another line is written is never asked. Flags, as the state's bytes have them.
 #[derive(Clone, Copy)]
 pub struct Sheet {
     pub line: u8,
@@ -47,7 +55,7 @@ pub struct State {
     pub counters: Counters,
 }
 
-// A command byte, decoded. Write is write and space or skip, Move the immediate form of both.
+// A command byte, decoded. Write is write and space or skip, Move the immediate form of both. Unlisted is a case, as the definitions and the orders have it.
 #[derive(Clone, Copy)]
 pub enum Command {
     Write(Motion),
@@ -77,8 +85,9 @@ pub enum Load {
     CopyNumber,
 }
 
+#[tactic(auto, unfolding(crate::specs::Core::started))]
 pub fn is_started(sheet: Sheet) -> bool
     ensures { result ≡ started sheet }
 {
-    (sheet.line != 1) | sheet.written
+    sheet.line != 1 || sheet.written
 }

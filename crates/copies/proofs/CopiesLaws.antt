@@ -1,35 +1,25 @@
 -- Overlay sequences, copy numbers and translate tables: the pairs of a record step by step, and what the checks leave true of an accepted one.
-use Rattle.std.proofs.Common.{◌≡◌, ℕ, suc, ◌+◌, ◌-◌, ◌/◌, ◌%◌, ◌<◌, ◌≤◌, true, not, ◌&&◌, eqb, leb, List, [], ◌∷◌, map, length, get_or, drop, replicate, refl, arith, length-drop, drop-cons, ltb-false, eqb-true, leb-true}
+use Rattle.std.proofs.Common.{◌≡◌, ℕ, suc, ◌/◌, ◌%◌, ◌≤◌, true, not, ◌&&◌, eqb, leb, List, [], ◌∷◌, map, length, get_or, replicate, refl, ap, arith, ltb-false, eqb-true, leb-true}
+use Rattle.std.specs.Prelude.{Ok, Err}
 use mathlib.Core.List.{flatten}
+use Rattle.std.specs.Simd.{first_chunks}
 use borrow.Author.Tests.{eqb-false, not-true, not-false}
 use Rattle.seq.specs.Words.{any, when, first_or, zeros}
 use Rattle.seq.proofs.Laws.{and_left, and_right, or_right, passed}
 use Rattle.numbers.specs.Sizes.{slot_size}
 use Rattle.numbers.specs.declared.Cause.TheVariants.{SequencePairs, SequenceCounts, NumberRecord}
-use Rattle.numbers.specs.declared.Checked.TheVariants.{Sound, Faulty}
 use Rattle.numbers.proofs.Laws.{faulty}
 use Rattle.copies.specs.declared.Copies.{Copies}
-use Rattle.copies.specs.Copies.{pair_size, most_copies, table_check, pairs_of, copies_of, whole_pairs, bad_pair, sequence_check, mark_in, number_check, copy_number}
+use Rattle.copies.specs.Copies.{pair_size, most_copies, table_check, pairs_of, pair_of, copies_of, whole_pairs, bad_pair, sequence_check, mark_in, number_check, copy_number}
 
--- The pairs from place i on: the one there before those after it, and none where fewer than two bytes are left.
-module _ (r : List ℕ) (i : ℕ) where
-  pub pairs-more : 2 ≤ length r - i → pairs_of (drop i r) ≡ (get_or r i 0, get_or r (i + 1) 0) ∷ pairs_of (drop (i + 2) r)
-  unfolding pairs_of
-  pairs-more h =
-      let one : i + 1 ≡ suc i = omega arith in
-      let two : i + 2 ≡ suc (suc i) = omega arith in
-      rw (one, two, drop-cons r i 0 (omega arith), drop-cons r (suc i) 0 (omega arith)) refl
+-- The pairs of a record are its chunks of two.
+pub chunked : (r : List ℕ) → map pair_of (first_chunks 2 (length r / 2) r) ≡ pairs_of r
+unfolding pairs_of
+chunked [] = refl
+chunked (n ∷ []) = refl
+chunked (n ∷ m ∷ r) = let e : suc (suc (length r)) / 2 ≡ suc (length r / 2) = omega arith in rw e (ap (λ ps. (n, m) ∷ ps) (chunked r))
 
-  pub pairs-none : length r - i < 2 → pairs_of (drop i r) ≡ []
-  unfolding pairs_of
-  pairs-none h = short (drop i r) (rw length-drop h)
-    where
-      short : (l : List ℕ) → length l < 2 → pairs_of l ≡ []
-      short [] h = refl
-      short (n ∷ []) h = refl
-      short (n ∷ m ∷ l) h = absurd (omega arith)
-
-pub table-long : (r : List ℕ) → table_check r ≡ Sound → slot_size ≤ length r
+pub table-long : (r : List ℕ) → table_check r ≡ Ok tt → slot_size ≤ length r
 unfolding table_check
 table-long r e = ltb-false (length r) slot_size (passed _ _ faulty e).0
 
@@ -42,15 +32,15 @@ pairs-fit n w =
     let few : n / 2 ≤ 8 = leb-true _ _ (and_right (eqb (n % 2) 0 && leb 1 (n / 2)) _ w) in
     omega (arith, pairs-even n w)
 
-pub sequence-fits : (r : List ℕ) → sequence_check r ≡ Sound → length r ≤ pair_size
+pub sequence-fits : (r : List ℕ) → sequence_check r ≡ Ok tt → length r ≤ pair_size
 unfolding sequence_check
 sequence-fits r e = pairs-fit (length r) (not-false _ (passed _ _ faulty e).0)
 
-pub few-copies : (r : List ℕ) → sequence_check r ≡ Sound → copies_of r ≤ most_copies
+pub few-copies : (r : List ℕ) → sequence_check r ≡ Ok tt → copies_of r ≤ most_copies
 unfolding sequence_check
 few-copies r e = ltb-false most_copies (copies_of r) (or_right (any bad_pair (pairs_of r)) _ (passed _ _ faulty (passed _ _ faulty e).1).0)
 
-pub number-some : (r : List ℕ) → number_check r ≡ Sound → 1 ≤ get_or r 0 0
+pub number-some : (r : List ℕ) → number_check r ≡ Ok tt → 1 ≤ get_or r 0 0
 unfolding number_check
 number-some r e =
     let one : (eqb (length r) 1 && not (eqb (get_or r 0 0) 0)) ≡ true = not-false _ (passed _ _ faulty e).0 in
@@ -71,7 +61,7 @@ pub sequence-table : map sequence_check
     ∷ (1 ∷ 0 ∷ 0 ∷ 0 ∷ []) ∷ (1 ∷ 2 ∷ []) ∷ (255 ∷ 0 ∷ 1 ∷ 1 ∷ [])
     ∷ (248 ∷ 0 ∷ flatten (replicate 7 (1 ∷ 1 ∷ [])))
     ∷ [])
-    ≡ Faulty SequencePairs ∷ Faulty SequencePairs ∷ Faulty SequencePairs ∷ Faulty SequenceCounts ∷ Faulty SequenceCounts ∷ Faulty SequenceCounts ∷ Sound ∷ []
+    ≡ Err SequencePairs ∷ Err SequencePairs ∷ Err SequencePairs ∷ Err SequenceCounts ∷ Err SequenceCounts ∷ Err SequenceCounts ∷ Ok tt ∷ []
 unfolding sequence_check pairs_of copies_of flatten first_or when
 sequence-table = refl
 
@@ -81,6 +71,6 @@ unfolding mark_in pairs_of
 mark-table = refl
 
 -- Copy numbers: none, zero and two bytes; one that is not zero.
-pub number-table : map number_check ([] ∷ (0 ∷ []) ∷ (1 ∷ 1 ∷ []) ∷ (255 ∷ []) ∷ []) ≡ Faulty NumberRecord ∷ Faulty NumberRecord ∷ Faulty NumberRecord ∷ Sound ∷ []
+pub number-table : map number_check ([] ∷ (0 ∷ []) ∷ (1 ∷ 1 ∷ []) ∷ (255 ∷ []) ∷ []) ≡ Err NumberRecord ∷ Err NumberRecord ∷ Err NumberRecord ∷ Ok tt ∷ []
 unfolding number_check first_or when
 number-table = refl

@@ -1,13 +1,13 @@
 -- A stored overlay sequence: a scan of all its bytes at once, and what it tells with the count and the copies.
 use Rattle.std.proofs.Common.{◌≡◌, ℕ, zero, suc, ◌+◌, ◌-◌, ◌%◌, ◌<◌, ◌≤◌, Bool, true, false, cond, not, ◌&&◌, ◌||◌, eqb, ltb, leb, List, [], ◌∷◌, length, get_or, take, drop, sym, refl, ap, ◌∙◌, zero-add, add-one, arith, length-take-le, drop-cons, ltb-false, ltb-true, le-ltb, lt-ltb, eq-eqb, ne_eqb, eqb-true, le-leb, leb-true}
-use mathlib.Core.Bool.{and-false, or-true, not-not}
+use Rattle.std.specs.Prelude.{Ok, Err}
+use mathlib.Core.Bool.{and-false, and_assoc, or-true, not-not}
 use native.Mathlib.Nat.{sub-zero}
-use borrow.Author.Tests.{eqb-false, lt-leb, not-false}
-use Rattle.seq.specs.Words.{any, bit, when, first_or, every, zero_from}
-use Rattle.seq.proofs.Laws.{or_left, or_right, above_zero}
+use borrow.Author.Tests.{lt-leb, not-false}
+use Rattle.seq.specs.Words.{any, when, first_or, every, zero_from}
+use Rattle.seq.proofs.Laws.{or_left, or_right}
 use Rattle.seq.proofs.Loops.{any-not-all}
 use Rattle.numbers.specs.declared.Cause.TheVariants.{SequenceCounts}
-use Rattle.numbers.specs.declared.Checked.TheVariants.{Sound, Faulty}
 use Rattle.numbers.specs.Numbers.{is_sound}
 use Rattle.copies.specs.Copies.{pair_size, most_copies, pairs_of, copies_of, whole_pairs, bad_pair, sequence_check, copies_in_range}
 use Rattle.copies.proofs.CopiesLaws.{pairs-fit, pairs-even}
@@ -30,24 +30,6 @@ loose-more n i l h = rw (add-one, drop-cons l i 0 h) refl
 pub loose_none : (n i : ℕ) → loose n i [] ≡ false
 unfolding loose
 loose_none n i = refl
-
--- the sign of a difference tells a place before the count, and one difference a loose byte
-pub before-count : (n k d : ℕ) → n ≤ pair_size → k < pair_size → d < 256 → (d + n) % 256 ≡ k → ltb 127 d ≡ ltb k n
-before-count n k d few small l e = go (ltb k n) refl
-  where
-    go : (t : Bool) → ltb k n ≡ t → ltb 127 d ≡ t
-    go true p = lt-ltb 127 d (omega (arith, ltb-true k n p))
-    go false p = le-ltb 127 d (omega (arith, ltb-false k n p))
-
-pub differs : (b d : ℕ) (w c : Bool) → d < 256 → (d + bit (w && c) 1) % 256 ≡ b
-    → ltb (bit w (cond c 254 1)) d ≡ cond w (cond c (eqb b 0) (ltb 1 b)) (not (eqb b 0))
-differs b d true true l e = go (eqb b 0) refl
-  where
-    go : (t : Bool) → eqb b 0 ≡ t → ltb 254 d ≡ t
-    go true p = lt-ltb 254 d (omega (arith, eqb-true b 0 p))
-    go false p = le-ltb 254 d (omega (arith, eqb-false b 0 p))
-differs b d true false l e = let q : d ≡ b = omega arith in ap (ltb 1) q
-differs b d false c l e = let q : d ≡ b = omega arith in rw q (above_zero b)
 
 -- Of whole pairs: a bad one, or a byte after them that is not 00.
 after-loose : (n i : ℕ) (l : List ℕ) → n ≤ i → loose n i l ≡ any is_set l
@@ -105,16 +87,16 @@ module _ (l : List ℕ) (n r : ℕ) (h : length l ≡ pair_size) where
   abbrev ok : Bool
   ok = copies_in_range (record { pairs = l; count = n; reference = r }) && is_sound (sequence_check (take n l))
 
-  pub ok-without-pairs : whole_pairs n ≡ false → ok ≡ false
-  unfolding copies_in_range every sequence_check first_or when is_sound
+  ok-without-pairs : whole_pairs n ≡ false → ok ≡ false
+  unfolding copies_in_range every sequence_check first_or when
   ok-without-pairs w = go (leb n pair_size) refl
     where
       go : (t : Bool) → leb n pair_size ≡ t → ok ≡ false
       go true e = simp (length-take-le n l (omega (arith, leb-true n pair_size e)), w, and-false)
       go false e = rw e refl
 
-  pub ok-with-pairs : whole_pairs n ≡ true → ok ≡ (leb 1 r && (not (any bad_pair (pairs_of (take n l)) || not (zero_from n l)) && leb (copies_of l) most_copies))
-  unfolding copies_in_range every sequence_check first_or when is_sound
+  ok-with-pairs : whole_pairs n ≡ true → ok ≡ (leb 1 r && (not (any bad_pair (pairs_of (take n l)) || not (zero_from n l)) && leb (copies_of l) most_copies))
+  unfolding copies_in_range every sequence_check first_or when
   ok-with-pairs w =
       rw (le-leb n pair_size (pairs-fit n w), length-take-le n l (omega (arith, pairs-fit n w)), w) (go (zero_from n l) refl)
     where
@@ -123,7 +105,7 @@ module _ (l : List ℕ) (n r : ℕ) (h : length l ≡ pair_size) where
       few c false e = le-leb c most_copies (ltb-false most_copies c e)
 
       judged : (t b o : Bool)
-          → ((t && true) && is_sound (first_or Sound (when (b || o) (Faulty SequenceCounts) ∷ []))) ≡ (t && (not (b || false) && not o))
+          → ((t && true) && is_sound (first_or (Ok tt) (when (b || o) (Err SequenceCounts) ∷ []))) ≡ (t && (not (b || false) && not o))
       judged false b o = refl
       judged true true o = refl
       judged true false true = refl
@@ -136,8 +118,17 @@ module _ (l : List ℕ) (n r : ℕ) (h : length l ≡ pair_size) where
       over = ltb most_copies (copies_of (take n l))
 
       go : (z : Bool) → zero_from n l ≡ z
-          → ((z && (leb 1 r && true)) && is_sound (first_or Sound (when (bad || over) (Faulty SequenceCounts) ∷ [])))
+          → ((z && (leb 1 r && true)) && is_sound (first_or (Ok tt) (when (bad || over) (Err SequenceCounts) ∷ [])))
           ≡ (leb 1 r && (not (bad || not z) && leb (copies_of l) most_copies))
       go false e = simp (or-true, and-false)
       go true e =
           rw (copies-front n l (pairs-even n w) (set_after n l ∙ ap not e), few (copies_of (take n l)) over refl) (judged (leb 1 r) bad over)
+
+  -- What is looked at: whether the count is one of whole pairs, and where it is, whether a byte is loose.
+  pub ok-tests : (whole loose : Bool) → whole ≡ whole_pairs n
+      → (n ≤ pair_size → n % 2 ≡ 0 → loose ≡ (any bad_pair (pairs_of (take n l)) || not (zero_from n l)))
+      → (whole && leb 1 r && not loose && leb (copies_of l) most_copies) ≡ ok
+  ok-tests false loose e s = sym (ok-without-pairs (sym e))
+  ok-tests true loose e s =
+      let w = sym e in
+      rw (s (pairs-fit n w) (pairs-even n w), and_assoc (leb 1 r)) (sym (ok-with-pairs w))

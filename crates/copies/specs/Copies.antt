@@ -1,22 +1,26 @@
 -- Document 01, "Copies and legends": the loads of translate table, overlay sequence and copy number. Every definition here is of that
 -- section.
 use Rattle.std.specs.Prelude.{ℕ, ◌+◌, ◌-◌, ◌/◌, ◌%◌, Bool, cond, not, ◌&&◌, ◌||◌, List, [], ◌∷◌, map, length, take, ◌==◌, nat_le, nat_lt, slice_index}
+use Rattle.std.specs.Prelude.{Ok, Err}
+use Rattle.numbers.specs.Numbers.{Checked}
 use Rattle.seq.specs.Words.{any, when, first_or, every, total, padded, zero_from}
 use Rattle.numbers.specs.Sizes.{slot_size}
 use Rattle.numbers.specs.declared.Cause.TheVariants.{TableShort, SequencePairs, SequenceCounts, NumberRecord}
-use Rattle.numbers.specs.declared.Checked.{Checked}
-use Rattle.numbers.specs.declared.Checked.TheVariants.{Sound, Faulty}
 use Rattle.copies.specs.declared.Copies.{Copies}
 
 -- Load translate: a record of fewer than 256 bytes is too short.
 unfoldable pub table_check : List ℕ → Checked
-table_check r = first_or Sound (when (nat_lt (length r) slot_size) (Faulty TableShort) ∷ [])
+table_check r = first_or (Ok tt) (when (nat_lt (length r) slot_size) (Err TableShort) ∷ [])
 
 -- An overlay sequence as pairs of copies and overlay mark, and how many copies it asks for.
 unfoldable pub pairs_of : List ℕ → List (ℕ × ℕ)
 pairs_of [] = []
 pairs_of (n ∷ []) = []
 pairs_of (n ∷ m ∷ r) = (n, m) ∷ pairs_of r
+
+-- A pair's two bytes as they stand in a record.
+abbrev pub pair_of : List ℕ → ℕ × ℕ
+pair_of c = (slice_index c 0, slice_index c 1)
 
 unfoldable pub copies_of : List ℕ → ℕ
 copies_of r = total (map (λ p. p.0) (pairs_of r))
@@ -34,9 +38,9 @@ bad_pair p = p.0 == 0 || nat_lt 1 p.1
 
 unfoldable pub sequence_check : List ℕ → Checked
 sequence_check r =
-    first_or Sound
-    (when (not (whole_pairs (length r))) (Faulty SequencePairs)
-    ∷ when (any bad_pair (pairs_of r) || nat_lt most_copies (copies_of r)) (Faulty SequenceCounts)
+    first_or (Ok tt)
+    (when (not (whole_pairs (length r))) (Err SequencePairs)
+    ∷ when (any bad_pair (pairs_of r) || nat_lt most_copies (copies_of r)) (Err SequenceCounts)
     ∷ [])
 
 -- The mark of the pair that copy k, from 1, falls to.
@@ -46,7 +50,7 @@ mark_in k (p ∷ ps) = let later = mark_in (k - p.0) ps in cond (nat_le k p.0) p
 
 -- Load copy number: one byte that is not zero (house).
 unfoldable pub number_check : List ℕ → Checked
-number_check r = first_or Sound (when (not (length r == 1 && not (slice_index r 0 == 0))) (Faulty NumberRecord) ∷ [])
+number_check r = first_or (Ok tt) (when (not (length r == 1 && not (slice_index r 0 == 0))) (Err NumberRecord) ∷ [])
 
 -- What the loads leave of sequence and number: the record's bytes with 00 after them, their count, and the reference.
 abbrev pub pair_size : ℕ

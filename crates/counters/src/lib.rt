@@ -30,14 +30,14 @@ pub enum Tally {
 fn next(count: u16) -> u16
     ensures { result ≡ next count }
 {
-    std::num::wrapping_add_u16(count, 1)
+    count.wrapping_add(1)
 }
 
 // The pages between two counters, of which the second is the later on the paper path.
 pub fn between(count: u16, later: u16) -> u16
     ensures { result ≡ between count later }
 {
-    std::num::wrapping_sub_u16(count, later)
+    count.wrapping_sub(later)
 }
 
 impl Counters {
@@ -52,51 +52,70 @@ impl Counters {
     pub const MOST_PAGES: u16 = 32767;
 
     // A Release counts its page.
-    pub fn counted(mut self) -> Counters
+    #[tactic(auto, unfolding(crate::specs::Counters::counted))]
+    pub fn counted(self) -> Counters
         ensures { result ≡ counted self }
     {
-        self.channel = next(self.channel);
-        self
+        Counters {
+            channel: next(self.channel),
+            ..self
+        }
     }
 
-    pub fn transferred(mut self) -> Counters
+    #[tactic(auto, unfolding(crate::specs::Counters::transferred))]
+    pub fn transferred(self) -> Counters
         ensures { result ≡ transferred self }
     {
-        self.transfer = next(self.transfer);
-        self
+        Counters {
+            transfer: next(self.transfer),
+            ..self
+        }
     }
 
-    pub fn fused(mut self) -> Counters
+    #[tactic(auto, unfolding(crate::specs::Counters::fused))]
+    pub fn fused(self) -> Counters
         ensures { result ≡ fused self }
     {
-        self.fuser = next(self.fuser);
-        self
+        Counters {
+            fuser: next(self.fuser),
+            ..self
+        }
     }
 
-    pub fn stacked(mut self) -> Counters
+    #[tactic(auto, unfolding(crate::specs::Counters::stacked))]
+    pub fn stacked(self) -> Counters
         ensures { result ≡ stacked self }
     {
-        self.stacker = next(self.stacker);
-        self
+        Counters {
+            stacker: next(self.stacker),
+            ..self
+        }
     }
 
-    pub fn cancelled(mut self) -> Counters
+    #[tactic(auto, unfolding(crate::specs::Counters::cancelled))]
+    pub fn cancelled(self) -> Counters
         ensures { result ≡ cancelled self }
     {
-        self.channel = self.transfer;
-        self
+        Counters {
+            channel: self.transfer,
+            ..self
+        }
     }
 
-    pub fn restarted(mut self) -> Counters
+    #[tactic(auto, unfolding(crate::specs::Counters::restarted))]
+    pub fn restarted(self) -> Counters
         ensures { result ≡ restarted self }
     {
-        self.channel = self.stacker;
-        self.transfer = self.stacker;
-        self.fuser = self.stacker;
-        self
+        Counters {
+            channel: self.stacker,
+            transfer: self.stacker,
+            fuser: self.stacker,
+            ..self
+        }
     }
 
     // Whether the counter that a report is for equals the one before it.
+    #[tactic(auto, unfolding(crate::specs::Counters::none_between))]
     pub fn none_between(self, tally: Tally) -> bool
         ensures { result ≡ none_between tally self }
     {
@@ -104,8 +123,7 @@ impl Counters {
             Tally::Transferred => self.transfer == self.channel,
             Tally::Fused => self.fuser == self.transfer,
             Tally::Stacked => self.stacker == self.fuser,
-            Tally::Cancel => false,
-            Tally::Restart => false,
+            Tally::Cancel | Tally::Restart => false,
         }
     }
 
@@ -116,12 +134,13 @@ impl Counters {
     }
 
     // Whether calls can lead to these counters.
+    #[tactic(auto, unfolding(crate::specs::Counters::counters_ok, seq::specs::Words::every))]
     pub fn is_reachable(self) -> bool
         ensures { result ≡ counters_ok self }
     {
         let channel = between(self.channel, self.stacker);
         let transfer = between(self.transfer, self.stacker);
         let fuser = between(self.fuser, self.stacker);
-        (fuser <= transfer) & ((transfer <= channel) & (channel <= Counters::MOST_PAGES))
+        fuser <= transfer && transfer <= channel && channel <= Counters::MOST_PAGES
     }
 }

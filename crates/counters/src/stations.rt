@@ -1,4 +1,5 @@
-// The calls of the stations, a cancel and a restart, each on counters that are lent and changed in place.
+// The calls of the stations, a cancel and a restart, each on counters that are lent and changed in place: a form that document 02 names, so one function
+// each, though they differ in a method alone.
 ghost use Rattle.std.specs.Prelude.{◌≡◌};
 ghost use Rattle.counters.specs.Counters.{transferred, fused, stacked, cancelled, restarted};
 
@@ -7,39 +8,29 @@ use crate::Counters;
 pub fn transferred(counters: &mut Counters)
     ensures { counters.new ≡ transferred counters.old }
 {
-    let before = *counters;
-    let after = before.transferred();
-    *counters = after;
+    *counters = counters.transferred();
 }
 
 pub fn fused(counters: &mut Counters)
     ensures { counters.new ≡ fused counters.old }
 {
-    let before = *counters;
-    let after = before.fused();
-    *counters = after;
+    *counters = counters.fused();
 }
 
 pub fn stacked(counters: &mut Counters)
     ensures { counters.new ≡ stacked counters.old }
 {
-    let before = *counters;
-    let after = before.stacked();
-    *counters = after;
+    *counters = counters.stacked();
 }
 
 pub fn cancel(counters: &mut Counters)
     ensures { counters.new ≡ cancelled counters.old }
 {
-    let before = *counters;
-    let after = before.cancelled();
-    *counters = after;
+    *counters = counters.cancelled();
 }
 
 pub fn restart(counters: &mut Counters)
     ensures { counters.new ≡ restarted counters.old }
 {
-    let before = *counters;
-    let after = before.restarted();
-    *counters = after;
+    *counters = counters.restarted();
 }

@@ -8,9 +8,9 @@ use lib.ListN.{length, set, replicate, length-replicate, replicate-append-replic
 use lib.Dec.{eqb, leb, ltb, lit≤}
 use borrow.Author.Tests.{ltb-true, lt-ltb, leb-true, leb-false, eqb-true, not-false}
 use Rattle.seq.specs.Words.{all, when, first_or, listed, total, zeros, padded}
+use Rattle.std.specs.Prelude.{Ok, Err}
 use Rattle.seq.proofs.Laws.{and_left, and_right, or_left, or_right, cond_has, listed-all, passed, every-at}
 use Rattle.numbers.specs.declared.Cause.TheVariants.{FcbChannel, FcbSpacing, FcbSum, FcbEdge}
-use Rattle.numbers.specs.declared.Checked.TheVariants.{Sound, Faulty}
 use Rattle.numbers.specs.Numbers.{is_sound}
 use Rattle.numbers.specs.Sizes.{page_lines}
 use Rattle.numbers.proofs.Laws.{faulty, sound-is}
@@ -25,7 +25,7 @@ record Passes (len : ℕ) (f : List ℕ) : Type 0 where
   pub spacings : other_upper f ≡ false
   pub sum : units_total f ≡ len
 
-passes : (len : ℕ) (f : List ℕ) → fcb_check len f ≡ Sound → Passes len f
+passes : (len : ℕ) (f : List ℕ) → fcb_check len f ≡ Ok tt → Passes len f
 unfolding fcb_check layout_check layout_of
 passes len f e =
     let h = passed _ _ faulty (passed _ _ faulty e).1 in
@@ -110,7 +110,7 @@ some-from len off (b ∷ bs) h l e =
     some-step b (lines_where (between len) (off + units b) bs) (between len off)
     (λ t. some-from len (off + units b) bs h (omega (arith, above len off l t, units-most (upper b))) (omega arith))
 
-module _ (len : ℕ) (f : List ℕ) (l : listed form_lengths len ≡ true) (e : fcb_check len f ≡ Sound) where
+module _ (len : ℕ) (f : List ℕ) (l : listed form_lengths len ≡ true) (e : fcb_check len f ≡ Ok tt) where
   pub fcb-fits : length f ≤ fcb_size
   fcb-fits = omega (arith, short-form len l, least-each f (passes len f e).spacings, (passes len f e).sum)
 
@@ -127,14 +127,14 @@ abbrev starts : ℕ → Bool
 starts n = is_sound (fcb_check n (start_fcb n)) && eqb (channel_at (printable n (start_fcb n)) 1) 1
 
 pub starting-fcb : all starts form_lengths ≡ true
-unfolding form_lengths fcb_check layout_check layout_of runs runs_from units_total units_of lines_where edges start_fcb first_or when is_sound channel_at printable
+unfolding form_lengths fcb_check layout_check layout_of runs runs_from units_total units_of lines_where edges start_fcb first_or when channel_at printable
 starting-fcb = refl
 
 pub starting-P : map (λ n. length (printable n (start_fcb n))) form_lengths ≡ 15 ∷ 27 ∷ 36 ∷ 45 ∷ 60 ∷ 12 ∷ 18 ∷ 30 ∷ 42 ∷ 54 ∷ 66 ∷ []
 unfolding form_lengths printable lines_where start_fcb units_of
 starting-P = refl
 
-pub start-sound : (len : ℕ) → listed form_lengths len ≡ true → fcb_check len (start_fcb len) ≡ Sound
+pub start-sound : (len : ℕ) → listed form_lengths len ≡ true → fcb_check len (start_fcb len) ≡ Ok tt
 start-sound len l = sound-is _ (and_left _ (eqb (channel_at (printable len (start_fcb len)) 1) 1) (listed-all starts len form_lengths starting-fcb l))
 
 -- The starting FCB as an array: all zeros but channel 1 at its fourth byte, and a count of six lines an inch.
@@ -174,6 +174,6 @@ pub fcb-table : map (fcb_check 84)
     -- 6, 8 and 12 lines per inch, and 8 after an inch of 6
     ∷ zeros 21 ∷ replicate 28 0x10 ∷ replicate 42 0x30 ∷ (zeros 6 ++ replicate 20 0x10)
     ∷ [])
-    ≡ Faulty FcbChannel ∷ Faulty FcbSpacing ∷ Faulty FcbSpacing ∷ Faulty FcbSum ∷ Faulty FcbSum ∷ Faulty FcbEdge ∷ Faulty FcbEdge ∷ Sound ∷ Sound ∷ Sound ∷ Sound ∷ []
+    ≡ Err FcbChannel ∷ Err FcbSpacing ∷ Err FcbSpacing ∷ Err FcbSum ∷ Err FcbSum ∷ Err FcbEdge ∷ Err FcbEdge ∷ Ok tt ∷ Ok tt ∷ Ok tt ∷ Ok tt ∷ []
 unfolding fcb_check layout_check layout_of runs runs_from units_total units_of lines_where edges first_or when
 fcb-table = refl

@@ -15,7 +15,7 @@ use Rattle.seq.proofs.Laws.{cond_has}
 use Rattle.form.specs.declared.Layout.{Layout}
 use Rattle.form.specs.declared.fcb.Pass.{Pass}
 use Rattle.form.specs.declared.Forms.{Forms}
-use Rattle.form.specs.Form.{upper, units, half_inch, runs, runs_from, units_total, between, lines_where, printable, edges, high_channel, bad_channel, other_upper, odd_run, layout_of, layout_check, fcb_check, fcb_now, has_channel}
+use Rattle.form.specs.Form.{upper, units, half_inch, runs, runs_from, units_total, between, lines_where, printable, edges, high_channel, bad_channel, other_upper, odd_run, layout_of, fcb_now, has_channel}
 use Rattle.form.specs.Pass.{start, step_of}
 use Rattle.form.proofs.FormLaws.{odd}
 
@@ -124,10 +124,6 @@ module _ (len : ℕ) where
   }
   unfolding joined units_total odd_from lines_where
   joined_end s = simp (or-false, add-zero)
-
-pub layout-check : (len : ℕ) (f : List ℕ) → layout_check len (layout_of len f) ≡ fcb_check len f
-unfolding fcb_check
-layout-check len f = refl
 
 no_lines : (t : ℕ → Bool) (off : ℕ) (f : List ℕ) → ((m : ℕ) → off ≤ m → t m ≡ false) → lines_where t off f ≡ []
 unfolding lines_where

@@ -7,6 +7,7 @@ use mathlib.Core.List.{List, [], ◌∷◌, ◌++◌, append-nil}
 use native.Mathlib.Nat.{add-zero, add_assoc, div-zero}
 use native.Mathlib.Omega.{arith}
 use lib.Dec.{eqb, leb, ltb}
+use Rattle.std.proofs.Common.{◌⊎◌, inl, inr}
 use lib.ListN.{length, get_or, take, drop, length-drop, take-append-drop}
 use lib.Seq.{drop-drop, length-take-le, get_or-take}
 use borrow.Author.Tests.{eqb-true, eqb-false, ltb-true, ltb-false, leb-true, eq-eqb, ne_eqb, lt-ltb, le-ltb, le-leb, lt-leb, not-true, not-false}
@@ -204,6 +205,13 @@ any-past-astray u zero f h bytes = refl
 any-past-astray u (suc n) [] h bytes = refl
 any-past-astray u (suc n) (b ∷ f) h bytes =
     rw (past-astray u b h (bytes 0)) (ap (λ (t : Bool). astray u b || t) (any-past-astray u n f h (λ k. bytes (suc k))))
+
+-- A count that leaves no room for the edge half inches, or goes past the array.
+pub no-room : (len n : ℕ) (f : List ℕ) → length f ≡ fcb_size → (n < edge_most) ⊎ ((edge_most ≤ n) × (fcb_size < n))
+    → (forms_in_range (record { fcb = f; count = n }) && uniform len (take n f)) ≡ false
+unfolding forms_in_range every uniform
+no-room len n f l (inl few) = simp (length-take-le n f (omega (arith, few, l)), lt-leb edge_most n few, and-false)
+no-room len n f l (inr many) = simp (lt-leb n fcb_size many.1)
 
 -- Where the count leaves room, three tests are left: the sum, a scan of the FCB's bytes, and 00 after them.
 pub uniform-tests : (len n : ℕ) (f : List ℕ) → edge_most ≤ n → n ≤ fcb_size → length f ≡ fcb_size → ((k : ℕ) → get_or f k 0 ≤ 255)

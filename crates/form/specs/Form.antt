@@ -1,9 +1,9 @@
 -- Document 01, "Form and forms control". Every definition here is of that section.
 use Rattle.std.specs.Prelude.{ℕ, ◌+◌, ◌-◌, ◌/◌, ◌%◌, Bool, cond, not, ◌&&◌, ◌||◌, List, [], ◌∷◌, ◌++◌, map, length, get_or, take, eqb, leb, ltb}
+use Rattle.std.specs.Prelude.{Ok, Err}
+use Rattle.numbers.specs.Numbers.{Checked}
 use Rattle.seq.specs.Words.{any, all, when, first_or, every, listed, total, zeros, padded, zero_from}
 use Rattle.numbers.specs.declared.Cause.TheVariants.{FcbChannel, FcbSpacing, FcbSum, FcbEdge}
-use Rattle.numbers.specs.declared.Checked.{Checked}
-use Rattle.numbers.specs.declared.Checked.TheVariants.{Sound, Faulty}
 use Rattle.form.specs.declared.Layout.{Layout}
 use Rattle.form.specs.declared.Forms.{Forms}
 
@@ -117,11 +117,11 @@ layout_of len f =
 -- All four, in the order of the list.
 unfoldable pub layout_check : ℕ → Layout → Checked
 layout_check len w =
-    first_or Sound
-    (when w.channel (Faulty FcbChannel)
-    ∷ when w.spacing (Faulty FcbSpacing)
-    ∷ when (not (eqb w.units len)) (Faulty FcbSum)
-    ∷ when w.edge (Faulty FcbEdge)
+    first_or (Ok tt)
+    (when w.channel (Err FcbChannel)
+    ∷ when w.spacing (Err FcbSpacing)
+    ∷ when (not (eqb w.units len)) (Err FcbSum)
+    ∷ when w.edge (Err FcbEdge)
     ∷ [])
 
 unfoldable pub fcb_check : ℕ → List ℕ → Checked

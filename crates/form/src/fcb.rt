@@ -7,7 +7,7 @@ ghost use Rattle.form.specs.Form.{layout_of, layout_check, fcb_check, forms_in_r
 ghost use Rattle.form.specs.Pass.{step_of, half_inch_most, edge_most, uniform};
 
 use crate::{Forms, Judged, Layout};
-use numbers::{Cause, Checked};
+use numbers::Cause;
 
 const HALF_INCH: u16 = 12;
 
@@ -21,7 +21,7 @@ const BLOCK: usize = 32;
 
 // What the bytes so far have shown: the upper half of the last one, a bad channel, another upper half, a run that ended within a half inch,
 // the units in all, a channel in an edge half inch, the lines that start in the first half inch, and the printable ones.
-#[derive(Clone, Copy)]
+#[derive(Clone, Copy, Default)]
 struct Pass {
     upper: u8,
     channel: bool,
@@ -33,61 +33,55 @@ struct Pass {
     lines: u16,
 }
 
-fn units(upper: u8) -> u16
-    ensures { (result ≡ units_of upper) × (result ≤ most_units) }
-{
-    if upper == 0 {
-        return 4;
-    }
-    if upper == 1 {
-        return 3;
-    }
-    if upper == 3 {
-        return 2;
-    }
-    0
+// A spacing, both 0 where an upper half means none: the units of a line, and the lines of a half inch.
+#[derive(Clone, Copy)]
+struct Spacing {
+    units: u16,
+    lines: u16,
 }
 
-// Whether a run ends within a half inch, asked only where one ends.
-fn ends_odd(change: bool, at: u16) -> bool
-    ensures { result ≡ (change && not (eqb (at % half_inch) 0)) }
+#[tactic(auto, unfolding(crate::specs::Form::units_of))]
+fn spacing_of(upper: u8) -> Spacing
+    ensures units { result.units ≡ units_of upper }
+    ensures units_most { result.units ≤ most_units }
+    ensures lines { result.lines ≡ half_inch / units_of upper }
+    ensures lines_most { result.lines ≤ half_inch_most }
 {
-    if change {
-        return at % HALF_INCH != 0;
+    match upper {
+        0 => Spacing { units: 4, lines: 3 },
+        1 => Spacing { units: 3, lines: 4 },
+        3 => Spacing { units: 2, lines: 6 },
+        _ => Spacing { units: 0, lines: 0 },
     }
-    false
 }
 
-// One more byte; the printable lines start before `last`.
+// One more byte; the printable lines start before `last`. Whether a run is odd is asked only where it ends.
+#[tactic(auto, unfolding(crate::specs::Pass::step_of))]
 fn step(last: u16, s: Pass, b: u8) -> Pass
-    requires { (s.units ≤ most_units * legend_size) × ((s.top ≤ legend_size) × (s.lines ≤ legend_size)) }
-    ensures { (result ≡ step_of last s b) × ((result.units ≤ s.units + most_units) × ((result.top ≤ s.top + 1) × (result.lines ≤ s.lines + 1))) }
+    requires units { s.units ≤ most_units * legend_size }
+    requires top { s.top ≤ legend_size }
+    requires lines { s.lines ≤ legend_size }
+    ensures value { result ≡ step_of last s b }
+    ensures units_most { result.units ≤ s.units + most_units }
+    ensures top_most { result.top ≤ s.top + 1 }
+    ensures lines_most { result.lines ≤ s.lines + 1 }
 {
     let at = s.units;
     let upper = b / 16;
     let channel = b % 16;
-    let n = units(upper);
-    let odd = ends_odd(upper != s.upper, at);
+    let n = spacing_of(upper).units;
+    let odd = upper != s.upper && at % HALF_INCH != 0;
     let between = (HALF_INCH <= at) & (at < last);
     Pass {
-        upper: upper,
+        upper,
         channel: s.channel | (LAST_CHANNEL < channel),
         other: s.other | (n == 0),
         odd: s.odd | odd,
         units: at + n,
         edge: s.edge | (!between & (channel != 0)),
-        top: s.top + (seq::flag(at < HALF_INCH, 1) as u16),
-        lines: s.lines + (seq::flag(between, 1) as u16),
+        top: s.top + u16::from(at < HALF_INCH),
+        lines: s.lines + u16::from(between),
     }
-}
-
-fn less(a: u16, b: u16) -> u16
-    ensures { result ≡ a - b }
-{
-    if a < b {
-        return 0;
-    }
-    a - b
 }
 
 // One pass over an FCB.
@@ -95,21 +89,10 @@ fn lay_out(form: u16, fcb: &[u8]) -> Layout
     requires { length fcb.now ≤ legend_size }
     ensures { result ≡ layout_of form fcb.now }
 {
-    let last = less(form, HALF_INCH);
-    let mut s = Pass {
-        upper: 0,
-        channel: false,
-        other: false,
-        odd: false,
-        units: 0,
-        edge: false,
-        top: 0,
-        lines: 0,
-    };
-    let mut i = 0;
-    while i < fcb.len() {
-        s = step(last, s, fcb[i]);
-        i += 1;
+    let last = form.saturating_sub(HALF_INCH);
+    let mut s = Pass::default();
+    for &b in fcb {
+        s = step(last, s, b);
     }
     Layout {
         channel: s.channel,
@@ -125,28 +108,10 @@ fn any_channel(lines: &[u8]) -> bool
     ensures { result ≡ any has_channel lines.now }
 {
     let mut found = false;
-    let mut i = 0;
-    while i < lines.len() {
-        found = found | (lines[i] % 16 != 0);
-        i += 1;
+    for &b in lines {
+        found |= b % 16 != 0;
     }
     found
-}
-
-// The lines of a half inch, none where the upper half means no spacing.
-fn half_inch_lines(upper: u8) -> u16
-    ensures { (result ≡ half_inch / units_of upper) × (result ≤ half_inch_most) }
-{
-    if upper == 0 {
-        return 3;
-    }
-    if upper == 1 {
-        return 4;
-    }
-    if upper == 3 {
-        return 6;
-    }
-    0
 }
 
 fn lay_out_uniform(form: u16, fcb: &[u8]) -> Layout
@@ -155,80 +120,75 @@ fn lay_out_uniform(form: u16, fcb: &[u8]) -> Layout
     requires fcb_value { uniform form fcb.now ≡ true }
     ensures { result ≡ layout_of form fcb.now }
 {
-    let end = fcb.len();
-    let top = half_inch_lines(fcb[0] / 16);
-    let k = top as usize;
-    let last = end - k;
-    let edge = any_channel(&fcb[0..k]) | any_channel(&fcb[last..end]);
+    let top = spacing_of(fcb[0] / 16).lines;
+    let k = usize::from(top);
+    let last = fcb.len() - k;
+    let edge = any_channel(&fcb[..k]) | any_channel(&fcb[last..]);
     Layout {
         channel: false,
         spacing: form % HALF_INCH != 0,
         units: form,
-        edge: edge,
-        top: top,
+        edge,
+        top,
         lines: (last - k) as u16,
     }
 }
 
-pub fn layout_check(form: u16, layout: Layout) -> Checked
+#[tactic(auto, unfolding(crate::specs::Form::layout_check, seq::specs::Words::first_or, seq::specs::Words::when))]
+pub fn layout_check(form: u16, layout: Layout) -> Result<(), Cause>
     ensures { result ≡ layout_check form layout }
 {
     if layout.channel {
-        return Checked::Faulty(Cause::FcbChannel);
+        return Err(Cause::FcbChannel);
     }
     if layout.spacing {
-        return Checked::Faulty(Cause::FcbSpacing);
+        return Err(Cause::FcbSpacing);
     }
     if layout.units != form {
-        return Checked::Faulty(Cause::FcbSum);
+        return Err(Cause::FcbSum);
     }
     if layout.edge {
-        return Checked::Faulty(Cause::FcbEdge);
+        return Err(Cause::FcbEdge);
     }
-    Checked::Sound
+    Ok(())
 }
 
-pub fn fcb_check(form: u16, fcb: &[u8]) -> Checked
+#[tactic(auto, unfolding(crate::specs::Form::fcb_check))]
+pub fn fcb_check(form: u16, fcb: &[u8]) -> Result<(), Cause>
     requires { length fcb.now ≤ legend_size }
     ensures { result ≡ fcb_check form fcb.now }
 {
-    let layout = lay_out(form, fcb);
-    layout_check(form, layout)
+    layout_check(form, lay_out(form, fcb))
 }
 
 // Whether an FCB in its array is in range and of one spacing throughout. How far a byte lies past the first one's upper half tests both of
 // its halves: that is its channel where the upper half is the same, and more than the last channel at any other.
-fn is_uniform(form: u16, fcb: &[u8], count: u8) -> bool
-    requires { length fcb.now ≡ fcb_size }
+fn is_uniform(form: u16, fcb: &[u8; Forms::FCB_BYTES], count: u8) -> bool
     ensures { result ≡ (forms_in_range (record { fcb = fcb.entry.now; count = count }) && uniform form (take count fcb.entry.now)) }
 {
-    let n = seq::wide(count);
-    if Forms::FCB_BYTES < n {
-        return false;
-    }
-    if n < EDGE_MOST {
+    let n = usize::from(count);
+    if n < EDGE_MOST || Forms::FCB_BYTES < n {
         return false;
     }
     let upper = fcb[0] / 16;
-    let k = half_inch_lines(upper);
-    if HALF_INCH as usize * n != k as usize * form as usize {
+    let k = spacing_of(upper).lines;
+    if usize::from(HALF_INCH) * n != usize::from(k) * usize::from(form) {
         return false;
     }
-    !seq::any_above_by(BLOCK, 16 * upper, LAST_CHANNEL, &fcb[0..n]) & seq::zero_from(fcb, n)
+    !seq::any_above_by(BLOCK, 16 * upper, LAST_CHANNEL, &fcb[..n]) & seq::zero_from(fcb, n)
 }
 
 // For any count: more bytes than there are is all there are.
-fn judge_mixed(form: u16, fcb: &[u8], count: u8) -> Judged
-    requires { length fcb.now ≡ fcb_size }
+#[tactic(auto, unfolding(crate::specs::Form::forms_in_range, seq::specs::Words::every))]
+fn judge_mixed(form: u16, fcb: &[u8; Forms::FCB_BYTES], count: u8) -> Judged
     ensures range { result.range ≡ forms_in_range (record { fcb = fcb.entry.now; count = count }) }
     ensures layout { result.layout ≡ layout_of form (take count fcb.now) }
 {
-    let n = seq::wide(count);
+    let n = usize::from(count);
     let zero = seq::zero_from(fcb, n);
-    let layout = lay_out(form, seq::front(fcb, n));
     Judged {
         range: (n <= Forms::FCB_BYTES) & zero,
-        layout: layout,
+        layout: lay_out(form, &fcb[..n.min(fcb.len())]),
     }
 }
 
@@ -238,42 +198,40 @@ pub fn judge(form: u16, fcb: &[u8], count: u8) -> Judged
     ensures range { result.range ≡ forms_in_range (record { fcb = fcb.entry.now; count = count }) }
     ensures layout { result.layout ≡ layout_of form (take count fcb.now) }
 {
+    let fcb: &[u8; Forms::FCB_BYTES] = fcb.as_array().unwrap();
+    let n = usize::from(count);
     if !is_uniform(form, fcb, count) {
         return judge_mixed(form, fcb, count);
     }
-    let layout = lay_out_uniform(form, seq::front(fcb, seq::wide(count)));
     Judged {
         range: true,
-        layout: layout,
+        layout: lay_out_uniform(form, &fcb[..n.min(fcb.len())]),
     }
 }
 
+#[tactic(auto, unfolding(crate::specs::Form::form_lengths))]
 pub fn length_listed(form: u32) -> bool
     ensures { result ≡ listed form_lengths form }
 {
-    (form == 84)
-        | (form == 132)
-        | (form == 168)
-        | (form == 204)
-        | (form == 264)
-        | (form == 72)
-        | (form == 96)
-        | (form == 144)
-        | (form == 192)
-        | (form == 240)
-        | (form == 288)
+    matches!(
+        form,
+        84 | 132 | 168 | 204 | 264 | 72 | 96 | 144 | 192 | 240 | 288
+    )
 }
 
+#[tactic(auto, unfolding(crate::specs::Form::pitches_listed))]
 fn pitch_listed(pitch: u32) -> bool
     ensures { result ≡ listed pitches_listed pitch }
 {
-    (pitch == 0) | (pitch == 10) | (pitch == 12) | (pitch == 15)
+    matches!(pitch, 0 | 10 | 12 | 15)
 }
 
 // Form length and pitches as Start is passed them.
-pub fn form_ok(form: u32, p0: u32, p1: u32, p2: u32, p3: u32) -> bool
-    ensures { result ≡ form_ok form (p0 ∷ p1 ∷ p2 ∷ p3 ∷ []) }
+#[tactic(auto, unfolding(crate::specs::Form::form_ok, crate::specs::Form::pitches_ok, seq::specs::Words::every))]
+pub fn form_ok(form: u32, pitches: [u32; 4]) -> bool
+    ensures { result ≡ form_ok form pitches }
 {
-    let pitches = pitch_listed(p0) & (pitch_listed(p1) & (pitch_listed(p2) & pitch_listed(p3)));
-    length_listed(form) & (pitches & (p0 != 0))
+    let [p0, p1, p2, p3] = pitches;
+    let listed = pitch_listed(p0) & pitch_listed(p1) & pitch_listed(p2) & pitch_listed(p3);
+    length_listed(form) & listed & (p0 != 0)
 }

@@ -27,7 +27,8 @@ impl Forms {
     pub const FCB_BYTES: usize = 144;
 }
 
-// What is found of an FCB in its array: whether its count and the 00 after it are in range, and the form that it lays out.
+// What is found of an FCB in its array: whether its count and the 00 after it are in range, and the form that it lays out. Both are told of any
+// bytes: the layout has its meaning whether the range holds or not, so no Option of it says more.
 #[derive(Clone, Copy)]
 pub struct Judged {
     pub range: bool,

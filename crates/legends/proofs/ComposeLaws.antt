@@ -5,8 +5,8 @@ use mathlib.Core.Bool.{Bool, true, false, cond, ◌&&◌, false≢true}
 use mathlib.Core.List.{List, [], ◌∷◌, ◌++◌, map}
 use native.Mathlib.Nat.{zero-add, add-zero, le_of_suc-le-suc, not-suc-le-zero}
 use native.Mathlib.Omega.{arith}
-use lib.ListN.{length, get_or, take, drop, length-map, length-take, length-drop}
-use lib.Seq.{drop_at, take-add, take-take, drop-drop, get_or-take, get_or-drop, length-take-le, ext_get_or}
+use lib.ListN.{length, get_or, take, drop, length-map, length-drop}
+use lib.Seq.{drop_at, take-add, take-take, get_or-take, length-take-le, ext_get_or}
 use lib.Dec.{leb, ltb, lit<}
 use borrow.Author.Tests.{leb-true, ltb-true, le-leb, lt-ltb, ltb-false}
 use Rattle.seq.proofs.Laws.{and_left, and_right, and_both}
@@ -17,9 +17,10 @@ use Rattle.numbers.specs.Numbers.{is_sound}
 use Rattle.line.specs.declared.Cell.{Cell}
 use Rattle.line.specs.Cells.{unruled, stored, cells_in}
 use Rattle.line.proofs.StoredLaws.{length-cells, cells-put}
-use Rattle.legends.specs.Legends.{head_size, Segment, segment_of, segment_length, stored_segments, legends_ok}
+use Rattle.legends.specs.declared.Head.{Head}
+use Rattle.legends.specs.Legends.{head_size, head_of, Segment, segment_of, segment_length, bad_head, stored_segments, legends_ok}
 use Rattle.legends.specs.Legends.{among, covers, shown, line_of, position_of, copy_from}
-use Rattle.legends.proofs.SegmentLaws.{found, rest, SoundFirst, sound-first, byte-set, ends-in-line, end-at, rest_at, stored_next, cut-end}
+use Rattle.legends.proofs.SegmentLaws.{found, rest, SoundFirst, sound-first, byte-set, ends-in-line, stored_next, cut-end}
 use Rattle.legends.proofs.StoredLaws.{first-set, ok-sound, ok-front}
 
 -- A copy as a list: its length, its cells; no segment leaves the page, and segments show one after the other.
@@ -210,51 +211,34 @@ this-copy g number lines old a line position size room =
     (λ c. (a, ((omega (arith, c), omega (arith, c)), (omega (arith, c), omega (arith, c)))))
     (λ c. ((omega arith, omega arith), ((omega (arith, c), omega (arith, c)), (omega (arith, c), omega (arith, c))))))
 
--- The segment at a place, its six bytes read there: the text is there, and they say where it goes.
-pub record Placed (l : List ℕ) (at : ℕ) : Type 0 where
-  pub fits : at + head_size + get_or l (at + 5) 0 ≤ length l
-  pub line : 1 ≤ get_or l (at + 2) 0
-  pub position : 1 ≤ get_or l (at + 4) 0
-  pub ends : get_or l (at + 4) 0 + get_or l (at + 5) 0 ≤ line_width + 1
+-- What the head of a sound segment says of where its text goes.
+pub record Placed (h : Head) : Type 0 where
+  pub line : 1 ≤ h.first_line
+  pub position : 1 ≤ h.first_position
+  pub ends : h.first_position + h.positions ≤ line_width + 1
 
-pub placed : (l : List ℕ) (at : ℕ) → SoundFirst (drop at l) → Placed l at
-placed l at w =
-    let read : (k : ℕ) → get_or l (at + k) 0 ≡ get_or (drop at l) k 0 = λ k. sym (get_or-drop at l k 0) in
-    record {
-      fits = rw (read 5) (omega (arith, end-at l at (segment_length (drop at l)) refl w));
-      line = rw (read 2) (byte-set (drop at l) w 2 (lit< tt));
-      position = rw (read 4) (byte-set (drop at l) w 4 (lit< tt));
-      ends = rw (read 4, read 5) (ends-in-line (drop at l) w);
-    }
+module _ (l : List ℕ) (h : Head) (e : h ≡ head_of l) (sound : bad_head l ≡ false) (size : segment_length l ≤ length l) where
+  abbrev w : SoundFirst l
+  w = record { head = sound; size = size }
 
-first-at : (l : List ℕ) (at : ℕ) → get_or (drop at l) 0 0 ≡ get_or l at 0
-first-at l at = get_or-drop at l 0 0 ∙ ap (λ (i : ℕ). get_or l i 0) (add-zero at)
+  pub placed : Placed h
+  placed = rw e (record { line = byte-set l w 2 (lit< tt); position = byte-set l w 4 (lit< tt); ends = ends-in-line l w })
 
-pub text_at : (l : List ℕ) (at : ℕ) → take (get_or l (at + 5) 0) (drop (at + head_size) l) ≡ (segment_of (drop at l)).text
-unfolding segment_of
-text_at l at = rw (get_or-drop at l 5 0, drop-drop head_size at l) refl
-
-pub length-text : (l : List ℕ) (at : ℕ) → Placed l at → length (segment_of (drop at l)).text ≡ get_or l (at + 5) 0
-length-text l at w = rw (← text_at l at) (simp (length-take, length-drop) (omega (arith, w)))
-
-module _ (l : List ℕ) (at number : ℕ) (old : List Cell) where
-  pub other-segment : (Among (get_or l at 0) (get_or l (at + 1) 0) number → ⊥) → old ≡ copy_from (segment_of (drop at l) ∷ []) number 0 old
+  pub length-text : length (segment_of l).text ≡ h.positions
   unfolding segment_of
-  other-segment none = other-copy (segment_of (drop at l)) number old (rw (first-at l at, get_or-drop at l 1 0) none)
+  length-text = rw e (length-take-le _ (drop head_size l) (omega (arith, length-drop head_size l, w.size)))
 
-  pub this-segment : (lines : ℕ) → Placed l at → Among (get_or l at 0) (get_or l (at + 1) 0) number → length old ≡ line_width * lines
-      → (let row = get_or l (at + 2) 0 - 1 in
-      copy_from (text_rows (segment_of (drop at l)).text row (get_or l (at + 4) 0 - 1) (min (row + get_or l (at + 3) 0) lines) ∷ []) 0 0 old
-      ≡ copy_from (segment_of (drop at l) ∷ []) number 0 old)
-  unfolding segment_of
-  this-segment lines w a room =
-      rw (← get_or-drop at l 2 0, ← get_or-drop at l 3 0, ← get_or-drop at l 4 0)
-      (this-copy (segment_of (drop at l)) number lines old
-      (rw (first-at l at, get_or-drop at l 1 0) a)
-      (rw (get_or-drop at l 2 0) w.line)
-      (rw (get_or-drop at l 4 0) w.position)
-      (length-text l at w ∙ sym (get_or-drop at l 5 0))
-      room)
+  module _ (number : ℕ) (old : List Cell) where
+    pub other-segment : (Among h.first_copy h.copies number → ⊥) → old ≡ copy_from (segment_of l ∷ []) number 0 old
+    unfolding segment_of
+    other-segment none = other-copy (segment_of l) number old (rw e at none)
+
+    pub this-segment : (lines : ℕ) → Among h.first_copy h.copies number → length old ≡ line_width * lines
+        → copy_from (text_rows (segment_of l).text (h.first_line - 1) (h.first_position - 1) (min (h.first_line - 1 + h.lines) lines) ∷ []) 0 0 old
+        ≡ copy_from (segment_of l ∷ []) number 0 old
+    unfolding segment_of
+    this-segment lines a room =
+        rw e (this-copy (segment_of l) number lines old (rw e at a) (rw e at placed.line) (rw e at placed.position) (length-text ∙ rw e refl) room)
 
 -- A segment cut off is the one at the front of the bytes it was cut from.
 segment-front : (s : List ℕ) → head_size ≤ length s → segment_of (take (segment_length s) s) ≡ segment_of s
@@ -263,7 +247,8 @@ segment-front s h =
     let m = segment_length s in
     let at : (k : ℕ) → k < head_size → get_or (take m s) k 0 ≡ get_or s k 0 = λ k j. get_or-take m s k 0 (omega arith) in
     let text : drop head_size (take m s) ≡ take (get_or s 5 0) (drop head_size s)
-    = ap (drop head_size) (take-add head_size (get_or s 5 0) s) ∙ drop_at (take head_size s) (take (get_or s 5 0) (drop head_size s)) head_size (length-take-le head_size s h) in
+    = ap (drop head_size) (take-add head_size (get_or s 5 0) s)
+    ∙ drop_at (take head_size s) (take (get_or s 5 0) (drop head_size s)) head_size (length-take-le head_size s h) in
     rw (
       text,
       at 0 (lit< tt),
@@ -276,36 +261,25 @@ segment-front s h =
     )
     refl
 
--- The walk over stored legends: from `at` on they are such as a printer can have, and lead from `out` to the goal.
-unfoldable pub Left : List ℕ → ℕ → ℕ → List Cell → List Cell → Type 0
-Left l number at out goal = (legends_ok (drop at l) ≡ true) × (copy_from (map segment_of (stored_segments (drop at l))) number 0 out ≡ goal)
+-- The walk over stored legends: those that are left are such as a printer can have, and lead from `out` to the goal.
+pub record Left (l : List ℕ) (number : ℕ) (out goal : List Cell) : Type 0 where
+  pub ok : legends_ok l ≡ true
+  pub leads : copy_from (map segment_of (stored_segments l)) number 0 out ≡ goal
 
-pub left-start : (l : List ℕ) (number : ℕ) (out : List Cell) → legends_ok l ≡ true
-    → Left l number 0 out (copy_from (map segment_of (stored_segments l)) number 0 out)
-unfolding Left
-left-start l number out e = (e, refl)
+pub left_end : (l : List ℕ) (number : ℕ) (out goal : List Cell) → get_or l 0 0 ≡ 0 → Left l number out goal → out ≡ goal
+unfolding stored_segments
+left_end l number out goal z w = sym (copy-none number 0 out) ∙ (rw (cut-end (length l) l z) at w.leads)
 
-pub left_end : (l : List ℕ) (number at : ℕ) (out goal : List Cell) → get_or l at 0 ≡ 0 → Left l number at out goal → out ≡ goal
-unfolding Left stored_segments
-left_end l number at out goal z (ok, e) = sym (copy-none number 0 out) ∙ (rw (cut-end (length (drop at l)) (drop at l) (first-at l at ∙ z)) at e)
+module _ (l : List ℕ) (number : ℕ) (out goal : List Cell) (some : get_or l 0 0 ≡ 0 → ⊥) (left : Left l number out goal) where
+  sound : is_sound (found l) ≡ true
+  sound = ok-front l left.ok some
 
-module _ (l : List ℕ) (number at : ℕ) (out goal : List Cell) (some : get_or l at 0 ≡ 0 → ⊥) (left : Left l number at out goal) where
-  abbrev here : List ℕ
-  here = drop at l
+  pub left_here : SoundFirst l
+  left_here = sound-first l sound
 
-  sound : is_sound (found here) ≡ true
-  unfolding Left
-  sound = ok-front here left.0 (λ e. some (sym (first-at l at) ∙ e))
-
-  pub left_here : SoundFirst here
-  left_here = sound-first here sound
-
-  pub left_step : (m : ℕ) → m ≡ segment_length here → Left l number (at + m) (copy_from (segment_of here ∷ []) number 0 out) goal
-  unfolding Left
-  left_step m e =
+  pub left_step : Left (rest l) number (copy_from (segment_of l ∷ []) number 0 out) goal
+  left_step =
       let w = left_here in
-      let next = rest_at l at m e in
-      let cuts = stored_next here (omega (arith, w.size)) (first-set here w) in
-      let c = copy-cons (segment_of here) (map segment_of (stored_segments (rest here))) number 0 out in
-      let q = rw (cuts, segment-front here (omega (arith, w.size)), c) at left.1 in
-      (rw (← next) (sym (ok-sound here sound) ∙ left.0), rw (← next) q)
+      let cuts = stored_next l (omega (arith, w.size)) (first-set l w) in
+      let c = copy-cons (segment_of l) (map segment_of (stored_segments (rest l))) number 0 out in
+      record { ok = sym (ok-sound l sound) ∙ left.ok; leads = rw (cuts, segment-front l (omega (arith, w.size)), c) at left.leads }

@@ -37,5 +37,6 @@ copy-codes page legends P number =
     let gs = map segment_of (stored_segments legends) in
     let cells = cells_in (take (line_bytes * P) page) in
     let size : line_bytes * P ≡ cell_bytes * (line_width * P) = omega arith in
-    let front = ap (λ (n : ℕ). map code (cells_in (take n page))) size ∙ ap (map code) (cells-take (line_width * P) page) ∙ map-take code (line_width * P) (cells_in page) in
+    let front = ap (λ (n : ℕ). map code (cells_in (take n page))) size ∙ ap (map code) (cells-take (line_width * P) page)
+    ∙ map-take code (line_width * P) (cells_in page) in
     ap (map code) (cells-stored (copy_from gs number 0 cells)) ∙ codes-of gs number 0 cells ∙ ap (codes_from gs number 0) front

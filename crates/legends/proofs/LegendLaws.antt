@@ -9,16 +9,17 @@ use lib.Seq.{take_at, drop_at, get_or-take, length-take-le}
 use lib.Dec.{eqb, lit<}
 use borrow.Author.Tests.{ne_eqb, le-ltb}
 use Rattle.seq.specs.Words.{empty, when, first_or, every, zeros, padded}
+use Rattle.std.specs.Prelude.{Ok, Err}
 use Rattle.seq.proofs.Laws.{passed, padded-zero, length-padded}
 use Rattle.numbers.specs.Sizes.{line_width, legend_size}
 use Rattle.numbers.specs.declared.Cause.TheVariants.{SegmentEnds, SegmentFields}
-use Rattle.numbers.specs.declared.Checked.TheVariants.{Sound, Faulty}
 use Rattle.numbers.specs.Numbers.{is_sound}
 use Rattle.numbers.proofs.Laws.{faulty}
 use Rattle.line.specs.declared.Cell.{Cell}
 use Rattle.line.specs.Cells.{unruled}
 use Rattle.legends.proofs.SegmentLaws.{judged, SoundFirst, rest, tested, empty-or-sound, byte-set, cut-none, cut-more, cut-take, cut-end}
-use Rattle.legends.specs.Legends.{head_size, segment_length, bad_head, segment_tests, cut, segments, legend_check, retext, stored_legends, stored_segments, legends_ok, no_legends, Segment, covers, shown}
+use Rattle.legends.specs.Legends.{head_size, segment_length, bad_head, segment_tests, cut, segments, legend_check, retext, stored_legends}
+use Rattle.legends.specs.Legends.{stored_segments, legends_ok, no_legends, Segment, covers, shown}
 
 -- A segment with its text and nothing after it, and several.
 pub record Fit (s : List ℕ) : Type 0 where
@@ -33,7 +34,7 @@ pub data Fits : List (List ℕ) → Type 0 where
 cut_most : (x : List ℕ) → length (take (segment_length x) x) ≤ segment_length (take (segment_length x) x)
 cut_most x = rw (get_or-take (segment_length x) x 5 0 (omega arith), length-take) (omega arith)
 
-cut_fits : (n : ℕ) (r : List ℕ) → first_or Sound (flatten (map segment_tests (cut (λ b. false) n r))) ≡ Sound → Fits (cut (λ b. false) n r)
+cut_fits : (n : ℕ) (r : List ℕ) → first_or (Ok tt) (flatten (map segment_tests (cut (λ b. false) n r))) ≡ Ok tt → Fits (cut (λ b. false) n r)
 unfolding cut flatten
 cut_fits zero r e = end
 cut_fits (suc n) [] e = end
@@ -41,7 +42,7 @@ cut_fits (suc n) (b ∷ bs) e =
     let t = tested (take (segment_length (b ∷ bs)) (b ∷ bs)) _ e in
     more (record { sound = t.0; exact = cut_most (b ∷ bs) }) (cut_fits n (rest (b ∷ bs)) t.1)
 
-pub segments-fit : (r : List ℕ) → legend_check r ≡ Sound → Fits (segments r)
+pub segments-fit : (r : List ℕ) → legend_check r ≡ Ok tt → Fits (segments r)
 unfolding legend_check segments
 segments-fit r e = cut_fits (length r) r (passed _ _ faulty e).1
 
@@ -79,21 +80,21 @@ segments-flatten {ss} g =
     ∙ cut-flatten (λ b. false) (λ b e. refl) [] (cut-none (λ b. false)) (length (flatten ss)) g (few-fits g)
 
 -- Such segments, if any, pass the load's check.
-fit-tests : (s : List ℕ) (ts : List (List ℕ)) → Fit s → first_or Sound (flatten (map segment_tests (s ∷ ts))) ≡ first_or Sound (flatten (map segment_tests ts))
+fit-tests : (s : List ℕ) (ts : List (List ℕ)) → Fit s
+    → first_or (Ok tt) (flatten (map segment_tests (s ∷ ts))) ≡ first_or (Ok tt) (flatten (map segment_tests ts))
 unfolding flatten first_or when
 fit-tests s ts f =
     let w = f.sound in
     rw (le-ltb (length s) head_size (omega (arith, w.size)), w.head, le-ltb (length s) (segment_length s) w.size)
 
-fits-tests : {ss : List (List ℕ)} → Fits ss → first_or Sound (flatten (map segment_tests ss)) ≡ Sound
+fits-tests : {ss : List (List ℕ)} → Fits ss → first_or (Ok tt) (flatten (map segment_tests ss)) ≡ Ok tt
 unfolding flatten first_or
 fits-tests end = refl
 fits-tests (more {s} {ss} f g) = fit-tests s ss f ∙ fits-tests g
 
 some-or-sound : {ss : List (List ℕ)} → Fits ss → (empty (flatten ss) || is_sound (legend_check (flatten ss))) ≡ true
-unfolding is_sound
 some-or-sound {ss} g =
-    let e : judged (flatten ss) ≡ Sound = rw (segments-flatten g) (fits-tests g) in
+    let e : judged (flatten ss) ≡ Ok tt = rw (segments-flatten g) (fits-tests g) in
     empty-or-sound (flatten ss) ∙ ap is_sound e
 
 zero-first : (n : ℕ) → get_or (zeros n) 0 0 ≡ 0
@@ -152,7 +153,7 @@ module _ (f : List ℕ → List ℕ) (same : (x : List ℕ) → length (f x) ≡
       length-append (retext f s) (flatten (map (retext f) ss))
       ∙ rw (retext-length s (omega (arith, t.sound.size)), flatten-same g) (sym (length-append s (flatten ss)))
 
-  module _ (r : List ℕ) (e : legend_check r ≡ Sound) (h : length r ≤ legend_size) where
+  module _ (r : List ℕ) (e : legend_check r ≡ Ok tt) (h : length r ≤ legend_size) where
     stored_short : length (flatten (map (retext f) (segments r))) ≤ legend_size
     unfolding segments
     stored_short =
@@ -177,7 +178,7 @@ pub legend-table : map legend_check
     ([] ∷ (0 ∷ 0 ∷ 0 ∷ 0 ∷ 0 ∷ []) ∷ (1 ∷ 1 ∷ 0 ∷ 1 ∷ 1 ∷ 1 ∷ []) ∷ (1 ∷ 1 ∷ 1 ∷ 1 ∷ 2 ∷ line_width ∷ zeros line_width) ∷ (1 ∷ 1 ∷ 1 ∷ 1 ∷ 1 ∷ 2 ∷ 0 ∷ [])
     ∷ (1 ∷ 1 ∷ 1 ∷ 1 ∷ 1 ∷ 1 ∷ 0 ∷ 1 ∷ 1 ∷ 1 ∷ 1 ∷ 0 ∷ 1 ∷ 0 ∷ []) ∷ (0xFF ∷ 0xFF ∷ 0xFF ∷ 0xFF ∷ 1 ∷ line_width ∷ zeros line_width)
     ∷ [])
-    ≡ Faulty SegmentEnds ∷ Faulty SegmentEnds ∷ Faulty SegmentFields ∷ Faulty SegmentFields ∷ Faulty SegmentEnds ∷ Faulty SegmentFields ∷ Sound ∷ []
+    ≡ Err SegmentEnds ∷ Err SegmentEnds ∷ Err SegmentFields ∷ Err SegmentFields ∷ Err SegmentEnds ∷ Err SegmentFields ∷ Ok tt ∷ []
 unfolding legend_check segments cut bad_head flatten first_or when
 legend-table = refl
 

@@ -7,14 +7,14 @@ use mathlib.Core.List.{List, [], ◌∷◌, ◌++◌, map, flatten}
 use native.Mathlib.Nat.{le_of_suc-le-suc, not-suc-le-zero}
 use native.Mathlib.Omega.{arith}
 use lib.ListN.{length, get_or, take, drop, length-take, length-drop}
-use lib.Seq.{take-take, take-add, drop-drop, get_or-take, length-take-le}
+use lib.Seq.{take-take, take-add, get_or-take, length-take-le}
 use lib.Dec.{eqb, leb, ltb}
 use borrow.Author.Tests.{leb-true, ltb-true, ltb-false, eqb-false, eq-eqb, lt-ltb, le-ltb, not-false}
 use Rattle.seq.specs.Words.{any, empty, when, first_or}
+use Rattle.std.specs.Prelude.{Ok, Err}
+use Rattle.numbers.specs.Numbers.{Checked}
 use Rattle.seq.proofs.Laws.{and_right, or_left, or_right, cond_has, passed}
 use Rattle.numbers.specs.declared.Cause.TheVariants.{SegmentEnds, SegmentFields}
-use Rattle.numbers.specs.declared.Checked.{Checked}
-use Rattle.numbers.specs.declared.Checked.TheVariants.{Sound, Faulty}
 use Rattle.numbers.specs.Sizes.{line_width}
 use Rattle.numbers.specs.Numbers.{is_sound}
 use Rattle.numbers.proofs.Laws.{faulty, sound-is}
@@ -22,10 +22,10 @@ use Rattle.legends.specs.Legends.{head_size, segment_length, bad_head, segment_t
 
 -- What the tests find of the segment at the front of s, and of all segments of s; and the bytes behind the first.
 abbrev pub found : List ℕ → Checked
-found s = first_or Sound (segment_tests s)
+found s = first_or (Ok tt) (segment_tests s)
 
 abbrev pub judged : List ℕ → Checked
-judged s = first_or Sound (flatten (map segment_tests (segments s)))
+judged s = first_or (Ok tt) (flatten (map segment_tests (segments s)))
 
 abbrev pub rest : List ℕ → List ℕ
 rest s = drop (segment_length s) s
@@ -36,7 +36,7 @@ pub record SoundFirst (s : List ℕ) : Type 0 where
   pub size : segment_length s ≤ length s
 
 -- where its tests and those after them find nothing, it is one, and those after them find nothing
-pub tested : (s : List ℕ) (ts : List (Option Checked)) → first_or Sound (segment_tests s ++ ts) ≡ Sound → SoundFirst s × (first_or Sound ts ≡ Sound)
+pub tested : (s : List ℕ) (ts : List (Option Checked)) → first_or (Ok tt) (segment_tests s ++ ts) ≡ Ok tt → SoundFirst s × (first_or (Ok tt) ts ≡ Ok tt)
 tested s ts e =
     let h₁ = passed (ltb (length s) head_size) _ faulty e in
     let h₂ = passed (bad_head s) _ faulty h₁.1 in
@@ -60,22 +60,12 @@ module _ (s : List ℕ) (w : SoundFirst s) where
   unfolding bad_head
   byte-set k h =
       let n = length-take-le head_size s (omega (arith, w.size)) in
-      rw (← get_or-take head_size s k 0 h) (none-zero k (take head_size s) (or_left _ (not (leb 2 ends && leb ends (line_width + 1))) w.head) (omega (arith, n, h)))
+      rw (← get_or-take head_size s k 0 h)
+      (none-zero k (take head_size s) (or_left _ (not (leb 2 ends && leb ends (line_width + 1))) w.head) (omega (arith, n, h)))
 
   pub ends-in-line : ends ≤ line_width + 1
   unfolding bad_head
   ends-in-line = leb-true ends (line_width + 1) (and_right (leb 2 ends) _ (not-false _ (or_right (any (λ b. eqb b 0) (take head_size s)) _ w.head)))
-
--- The segment at a place of s: its six bytes; its end, and what follows, if it has m bytes.
-pub six-at : (s : List ℕ) (at : ℕ) → SoundFirst (drop at s) → at + head_size ≤ length s
-six-at s at w = omega (arith, w.size, length-drop at s)
-
-module _ (s : List ℕ) (at m : ℕ) (e : m ≡ segment_length (drop at s)) where
-  pub end-at : SoundFirst (drop at s) → at + m ≤ length s
-  end-at w = omega (arith, e, w.size, length-drop at s)
-
-  pub rest_at : rest (drop at s) ≡ drop (at + m) s
-  rest_at = ap (λ (k : ℕ). drop k (drop at s)) (sym e) ∙ drop-drop m at s
 
 -- The tests of a segment see no more than the segment.
 ltb-take : (k m : ℕ) (s : List ℕ) → k ≤ m → ltb (length (take m s)) k ≡ ltb (length s) k
@@ -152,10 +142,10 @@ cut-end (suc n) (b ∷ bs) e = rw (eq-eqb b 0 e) refl
 
 -- The tests of all segments: those of the first, then those of the others.
 abbrev three : Bool → Bool → Bool → List (Option Checked) → Checked
-three a b c ts = first_or Sound (when a (Faulty SegmentEnds) ∷ when b (Faulty SegmentFields) ∷ when c (Faulty SegmentEnds) ∷ ts)
+three a b c ts = first_or (Ok tt) (when a (Err SegmentEnds) ∷ when b (Err SegmentFields) ∷ when c (Err SegmentEnds) ∷ ts)
 
-first_three : (a b c : Bool) (ts : List (Option Checked)) → three a b c ts ≡ cond (is_sound (three a b c [])) (first_or Sound ts) (three a b c [])
-unfolding first_or when is_sound
+first_three : (a b c : Bool) (ts : List (Option Checked)) → three a b c ts ≡ cond (is_sound (three a b c [])) (first_or (Ok tt) ts) (three a b c [])
+unfolding first_or when
 first_three true b c ts = refl
 first_three false true c ts = refl
 first_three false false true ts = refl
@@ -165,8 +155,8 @@ judged-next : (s : List ℕ) → 0 < length s → judged s ≡ cond (is_sound (f
 unfolding flatten
 judged-next s h =
     let ts = flatten (map segment_tests (segments (rest s))) in
-    ap (λ (ss : List (List ℕ)). first_or Sound (flatten (map segment_tests ss))) (segments-next s h)
-    ∙ ap (λ (us : List (Option Checked)). first_or Sound (us ++ ts)) (tests-front s)
+    ap (λ (ss : List (List ℕ)). first_or (Ok tt) (flatten (map segment_tests ss))) (segments-next s h)
+    ∙ ap (λ (us : List (Option Checked)). first_or (Ok tt) (us ++ ts)) (tests-front s)
     ∙ first_three (ltb (length s) head_size) (bad_head s) (ltb (length s) (segment_length s)) ts
 
 pub judged-sound : (s : List ℕ) → is_sound (found s) ≡ true → judged s ≡ judged (rest s)
@@ -175,13 +165,13 @@ judged-sound s e = judged-next s (omega (arith, (sound-first s e).size)) ∙ rw 
 pub judged-faulty : (s : List ℕ) → 0 < length s → is_sound (found s) ≡ false → judged s ≡ found s
 judged-faulty s h e = judged-next s h ∙ rw e
 
-pub judged-none : (s : List ℕ) → length s ≡ 0 → judged s ≡ Sound
+pub judged-none : (s : List ℕ) → length s ≡ 0 → judged s ≡ Ok tt
 unfolding segments cut flatten first_or
 judged-none [] l = refl
 judged-none (b ∷ bs) l = absurd (omega arith)
 
 -- A record passes as its segments do, an empty one apart.
-pub check-none : (r : List ℕ) → length r ≡ 0 → legend_check r ≡ Faulty SegmentEnds
+pub check-none : (r : List ℕ) → length r ≡ 0 → legend_check r ≡ Err SegmentEnds
 unfolding legend_check first_or when
 check-none [] l = refl
 check-none (b ∷ bs) l = absurd (omega arith)
@@ -192,6 +182,6 @@ check-some [] h = absurd (omega arith)
 check-some (b ∷ bs) h = refl
 
 pub empty-or-sound : (r : List ℕ) → (empty r || is_sound (legend_check r)) ≡ is_sound (judged r)
-unfolding legend_check segments cut flatten first_or when is_sound
+unfolding legend_check segments cut flatten first_or when
 empty-or-sound [] = refl
 empty-or-sound (b ∷ bs) = refl

@@ -4,23 +4,21 @@ use mathlib.Core.Path.{◌≡◌, refl, sym, ap, ◌∙◌}
 use mathlib.Core.Bool.{Bool, true, false, ◌&&◌, false≢true, and-true}
 use mathlib.Core.List.{List, [], ◌∷◌, ◌++◌, map, append_assoc, append-nil, flatten}
 use native.Mathlib.Omega.{arith}
-use lib.ListN.{length, get_or, take, drop, length-append, length-map, length-take, length-drop, drop_of_length-le}
+use lib.ListN.{length, get_or, take, drop, length-append, length-take, length-drop, drop_of_length-le}
 use lib.Seq.{take-take, take-add, take_at, drop_at, drop-drop, get_or-take, length-take-le}
 use lib.Dec.{eqb, lit<}
 use borrow.Author.Tests.{eqb-true, ne_eqb}
-use Rattle.seq.specs.Words.{any, all, first_or, every, zeros, padded, zero_from}
-use Rattle.seq.proofs.Laws.{and_left, passed}
-use Rattle.numbers.specs.declared.Checked.TheVariants.{Sound}
+use Rattle.seq.specs.Words.{all, first_or, every, zeros, padded, zero_from}
+use Rattle.std.specs.Prelude.{Ok}
+use Rattle.seq.proofs.Laws.{and_left, passed, take_rest}
 use Rattle.numbers.specs.Sizes.{legend_size}
 use Rattle.numbers.specs.Numbers.{is_sound}
 use Rattle.numbers.proofs.Laws.{faulty}
 use Rattle.line.specs.declared.Unprintables.{Unprintables}
-use Rattle.line.specs.Line.{unprintable, translated, unprintable_at, told}
-use Rattle.line.specs.Codes.{codes, mended_codes, unprintable_codes}
-use Rattle.line.proofs.CellLaws.{unprintable-codes, replaced-codes, printable-none, printable-codes}
+use Rattle.line.specs.Line.{translated, unprintable_at, told}
 use Rattle.line.proofs.LineLaws.{length-translated}
-use Rattle.line.proofs.UnprintableLaws.{told-before, unprintable-few}
-use Rattle.legends.proofs.SegmentLaws.{found, judged, rest, SoundFirst, sound-first, byte-set, end-at, rest_at, tests-front, cut-take, cut-end}
+use Rattle.line.proofs.UnprintableLaws.{unprintable-few}
+use Rattle.legends.proofs.SegmentLaws.{found, judged, rest, SoundFirst, sound-first, byte-set, tests-front, cut-take, cut-end}
 use Rattle.legends.proofs.SegmentLaws.{segments-next, stored_next, judged-sound, judged-faulty, empty-or-sound}
 use Rattle.legends.proofs.LegendLaws.{retext-length}
 use Rattle.legends.specs.Legends.{head_size, segment_length, segment_tests, cut, segments, legend_check, retext, stored_legends, unprintable_in_texts}
@@ -33,7 +31,7 @@ found-same r s e =
     let x : get_or r 5 0 ≡ get_or s 5 0 =
     sym (get_or-take m r 5 0 (omega arith)) ∙ ap (λ (q : List ℕ). get_or q 5 0) e ∙ get_or-take m s 5 0 (omega arith) in
     let l : segment_length r ≡ m = ap (λ (k : ℕ). head_size + k) x in
-    (l, ap (first_or Sound) (sym (tests-front r) ∙ ap (λ (k : ℕ). segment_tests (take k r)) l ∙ ap segment_tests e ∙ tests-front s))
+    (l, ap (first_or (Ok tt)) (sym (tests-front r) ∙ ap (λ (k : ℕ). segment_tests (take k r)) l ∙ ap segment_tests e ∙ tests-front s))
 
 -- Legends that do not begin with 00: their first segment, then the others.
 module _ (s : List ℕ) (some : 0 < length s) (set : eqb (get_or s 0 0) 0 ≡ false) where
@@ -84,7 +82,7 @@ ok-faulty s some set e =
 
 -- Where no sound segment stands, legends are over: all that is left is 00.
 pub ok_end : (s : List ℕ) → is_sound (found s) ≡ false → legends_ok s ≡ all (λ b. eqb b 0) s
-unfolding legends_ok stored_segments segments cut flatten first_or is_sound every
+unfolding legends_ok stored_segments segments cut flatten first_or every
 ok_end [] e = refl
 ok_end (b ∷ bs) e = go (eqb b 0) refl
   where
@@ -106,176 +104,143 @@ ok-front [] e some = absurd (some refl)
 ok-front (b ∷ bs) e some = holds _ (λ t. some (eqb-true b 0 (and_left (eqb b 0) _ (sym (ok_end (b ∷ bs) t) ∙ e))))
 
 -- A record that its load takes, and is stored segment by segment: its front is sound while there is one.
-judged-first : (s : List ℕ) → 0 < length s → judged s ≡ Sound → is_sound (found s) ≡ true
-unfolding is_sound
+judged-first : (s : List ℕ) → 0 < length s → judged s ≡ Ok tt → is_sound (found s) ≡ true
 judged-first s h e = holds _ (λ t. false≢true (sym t ∙ ap is_sound (sym (judged-faulty s h t) ∙ e)))
 
 abbrev stored : (List ℕ → List ℕ) → List ℕ → List ℕ
 stored f s = flatten (map (retext f) (segments s))
 
 -- After the segments before `at`: their bytes stand in front, their unprintable positions are told, and what is left gives the rest of both.
-module _ (ps t sent : List ℕ) where
-  abbrev in_texts : List ℕ → List ℕ
-  in_texts r = unprintable_in_texts (unprintable_at ps t) r
+abbrev in_texts : List ℕ → List ℕ → List ℕ → List ℕ
+in_texts ps t r = unprintable_in_texts (unprintable_at ps t) r
 
-  pub record Storing (out : List ℕ) (bad : Unprintables) (at : ℕ) : Type 0 where
-    pub within : at ≤ length sent
-    pub size : length out ≡ legend_size
-    pub sound : judged (drop at sent) ≡ Sound
-    pub cells : take at out ++ stored (translated ps t) (drop at sent) ≡ stored (translated ps t) sent
-    pub places : List ℕ
-    pub tells : bad ≡ told places
-    pub few : length places ≤ at
-    pub texts : places ++ in_texts (drop at sent) ≡ in_texts sent
+pub record Storing (ps t sent out : List ℕ) (bad : Unprintables) (at : ℕ) : Type 0 where
+  pub room : length sent ≤ legend_size
+  pub within : at ≤ length sent
+  pub size : length out ≡ legend_size
+  pub sound : judged (drop at sent) ≡ Ok tt
+  pub cells : take at out ++ stored (translated ps t) (drop at sent) ≡ stored (translated ps t) sent
+  pub places : List ℕ
+  pub tells : bad ≡ told places
+  pub few : length places ≤ at
+  pub texts : places ++ in_texts ps t (drop at sent) ≡ in_texts ps t sent
 
-  pub storing-start : (out : List ℕ) → length out ≡ legend_size → legend_check sent ≡ Sound → Storing out (told []) 0
-  unfolding legend_check
-  storing-start out l e =
-      record {
-        within = omega arith;
-        size = l;
-        sound = (passed _ _ faulty e).1;
-        cells = refl;
-        places = [];
-        tells = refl;
-        few = omega arith;
-        texts = refl;
-      }
+pub storing-start : (ps t sent out : List ℕ) → length sent ≤ legend_size → length out ≡ legend_size → legend_check sent ≡ Ok tt
+    → Storing ps t sent out (told []) 0
+unfolding legend_check
+storing-start ps t sent out r l e =
+    record {
+      room = r;
+      within = omega arith;
+      size = l;
+      sound = (passed _ _ faulty e).1;
+      cells = refl;
+      places = [];
+      tells = refl;
+      few = omega arith;
+      texts = refl;
+    }
 
-  module _ (out : List ℕ) (bad : Unprintables) (at : ℕ) (more : at < length sent) (so_far : Storing out bad at) where
-    abbrev left : List ℕ
-    left = drop at sent
+-- A turn: m bytes are the next segment, and it is sound.
+module _ {ps t sent out : List ℕ} {bad : Unprintables} {at : ℕ} (so_far : Storing ps t sent out bad at) (more : at < length sent) where
+  abbrev left : List ℕ
+  left = drop at sent
 
-    some : 0 < length left
-    some = rw length-drop (omega arith)
+  some : 0 < length left
+  some = rw length-drop (omega arith)
 
-    front : is_sound (found left) ≡ true
-    front = judged-first left some so_far.sound
+  front : is_sound (found left) ≡ true
+  front = judged-first left some so_far.sound
 
-    pub storing-first : SoundFirst left
-    storing-first = sound-first left front
+  next-first : SoundFirst left
+  next-first = sound-first left front
 
-    module _ (room : length sent ≤ legend_size) (m : ℕ) (e : m ≡ segment_length left) where
-      abbrev first : List ℕ
-      first = take m left
+  pub next-head : at + head_size ≤ length sent
+  next-head = omega (arith, next-first.size, length-drop at sent)
 
-      abbrev cells_of : List ℕ
-      cells_of = retext (translated ps t) first
+  module _ {m : ℕ} (long : m ≡ segment_length (take (length sent - at) left)) where
+    e : m ≡ segment_length left
+    e = long ∙ ap segment_length (take_rest at sent)
 
-      first-length : length first ≡ m
-      first-length = length-take-le m left (omega (arith, e, storing-first.size))
+    abbrev first : List ℕ
+    first = take m left
 
-      cells-length : length cells_of ≡ m
-      cells-length = retext-length (translated ps t) (length-translated ps t) first (omega (arith, e, first-length)) ∙ first-length
+    abbrev cells_of : List ℕ
+    cells_of = retext (translated ps t) first
 
-      segments-at : segments left ≡ first ∷ segments (drop (at + m) sent)
-      segments-at = segments-next left some ∙ λ i. take (sym e i) left ∷ segments (rest_at sent at m e i)
+    pub record Next : Type 0 where
+      pub head : head_size ≤ m
+      pub within : at + m ≤ length sent
 
-      -- the positions told of this segment
-      abbrev here : List ℕ
-      here = unprintable_at ps t (drop head_size first)
+    pub next : Next
+    next = record { head = omega (arith, e); within = omega (arith, e, next-first.size, length-drop at sent) }
 
-      here-few : length here ≤ m
-      here-few = omega (arith, unprintable-few ps t (drop head_size first), length-drop head_size first, first-length)
+    after : rest left ≡ drop (at + m) sent
+    after = ap (λ (k : ℕ). drop k left) (sym e) ∙ drop-drop m at sent
 
-      step : (b : Unprintables) → b ≡ told (so_far.places ++ here) → Storing (take at out ++ (cells_of ++ drop m (drop at out))) b (at + m)
-      unfolding flatten unprintable_in_texts
-      step b Told-here =
-          let next = rest_at sent at m e in
-          let end = end-at sent at m e storing-first in
-          let q = drop m (drop at out) in
-          let f = translated ps t in
-          let done : length (take at out ++ cells_of) ≡ at + m =
-          length-append (take at out) cells_of ∙ omega (arith, cells-length, length-take at out, so_far.size) in
-          record {
-            within = end;
-            size =
-                ap length (sym (append_assoc (take at out) cells_of q)) ∙ length-append (take at out ++ cells_of) q
-                ∙ omega (arith, done, length-drop m (drop at out), length-drop at out, so_far.size);
-            sound = ap judged (sym next) ∙ sym (judged-sound left front) ∙ so_far.sound;
-            cells =
-                ap (λ (l : List ℕ). take (at + m) l ++ stored f (drop (at + m) sent)) (sym (append_assoc (take at out) cells_of q))
-                ∙ ap (λ (l : List ℕ). l ++ stored f (drop (at + m) sent)) (take_at (take at out ++ cells_of) q (at + m) done)
-                ∙ append_assoc (take at out) cells_of (stored f (drop (at + m) sent))
-                ∙ ap (λ (ss : List (List ℕ)). take at out ++ flatten (map (retext f) ss)) (sym segments-at)
-                ∙ so_far.cells;
-            places = so_far.places ++ here;
-            tells = Told-here;
-            few = omega (arith, length-append so_far.places here, so_far.few, here-few);
-            texts =
-                append_assoc so_far.places here (in_texts (drop (at + m) sent))
-                ∙ ap (λ (ss : List (List ℕ)). so_far.places ++ flatten (map (λ s. unprintable_at ps t (drop head_size s)) ss)) (sym segments-at)
-                ∙ so_far.texts;
-          }
+    first-length : length first ≡ m
+    first-length = length-take-le m left (omega (arith, e, next-first.size))
 
-      storing-more : (ys : List ℕ) (b : Unprintables) → ys ≡ cells_of → b ≡ told (so_far.places ++ here)
-          → Storing (take at out ++ (ys ++ drop m (drop at out))) b (at + m)
-      storing-more ys b y u = rw y (step b u)
+    cells-length : length cells_of ≡ m
+    cells-length = retext-length (translated ps t) (length-translated ps t) first (omega (arith, e, first-length)) ∙ first-length
 
-      -- the segment looked up, with nothing to mend in it
-      pub storing-good : (ys : List ℕ) (b : Bool) → ys ≡ retext (codes t) first → b ≡ any (unprintable ps) (codes t (drop head_size first)) → b ≡ false
-          → Storing (take at out ++ (ys ++ drop m (drop at out))) bad (at + m)
-      storing-good ys b y u n =
-          let none = sym u ∙ n in
-          storing-more ys bad (y ∙ ap (λ (r : List ℕ). take head_size first ++ r) (printable-codes ps t (drop head_size first) none))
-          (so_far.tells ∙ told-before so_far.places here (ap length (printable-none ps t (drop head_size first) none)))
+    segments-at : segments left ≡ first ∷ segments (drop (at + m) sent)
+    segments-at = segments-next left some ∙ λ i. take (sym e i) left ∷ segments (after i)
 
-      -- and looked up, then mended
-      module _ (ys : List ℕ) (y : ys ≡ retext (codes t) first) where
-        abbrev coded : List ℕ
-        coded = take at out ++ (ys ++ drop m (drop at out))
+    -- the positions told of this segment
+    abbrev here : List ℕ
+    here = unprintable_at ps t (drop head_size first)
 
-        at_long : length (take at out) ≡ at
-        at_long = length-take-le at out (omega (arith, so_far.within, so_far.size, room))
+    here-few : length here ≤ m
+    here-few = omega (arith, unprintable-few ps t (drop head_size first), length-drop head_size first, first-length)
 
-        six : head_size ≤ length first
-        six = omega (arith, e, first-length)
+    pub storing-step : (ys : List ℕ) (b : Unprintables) → ys ≡ cells_of → b ≡ told (so_far.places ++ here)
+        → Storing ps t sent (take at out ++ (ys ++ drop m (drop at out))) b (at + m)
+    unfolding flatten unprintable_in_texts
+    storing-step ys b y u =
+        let q = drop m (drop at out) in
+        let f = translated ps t in
+        let done : length (take at out ++ cells_of) ≡ at + m =
+        length-append (take at out) cells_of ∙ omega (arith, cells-length, length-take at out, so_far.size, so_far.room, next.within) in
+        rw y (record {
+          room = so_far.room;
+          within = next.within;
+          size =
+              ap length (sym (append_assoc (take at out) cells_of q)) ∙ length-append (take at out ++ cells_of) q
+              ∙ omega (arith, done, length-drop m (drop at out), length-drop at out, so_far.size, so_far.room, next.within);
+          sound = ap judged (sym after) ∙ sym (judged-sound left front) ∙ so_far.sound;
+          cells =
+              ap (λ (l : List ℕ). take (at + m) l ++ stored f (drop (at + m) sent)) (sym (append_assoc (take at out) cells_of q))
+              ∙ ap (λ (l : List ℕ). l ++ stored f (drop (at + m) sent)) (take_at (take at out ++ cells_of) q (at + m) done)
+              ∙ append_assoc (take at out) cells_of (stored f (drop (at + m) sent))
+              ∙ ap (λ (ss : List (List ℕ)). take at out ++ flatten (map (retext f) ss)) (sym segments-at)
+              ∙ so_far.cells;
+          places = so_far.places ++ here;
+          tells = u;
+          few = omega (arith, length-append so_far.places here, so_far.few, here-few);
+          texts =
+              append_assoc so_far.places here (in_texts ps t (drop (at + m) sent))
+              ∙ ap (λ (ss : List (List ℕ)). so_far.places ++ flatten (map (λ s. unprintable_at ps t (drop head_size s)) ss)) (sym segments-at)
+              ∙ so_far.texts;
+        })
 
-        coded-length : length ys ≡ m
-        coded-length = ap length y ∙ retext-length (codes t) (λ r. length-map r _) first six ∙ first-length
+-- At the end, all is stored and told.
+module _ {ps t sent out : List ℕ} {bad : Unprintables} {at : ℕ} (so_far : Storing ps t sent out bad at) (over : length sent ≤ at) where
+  none : [] ≡ drop at sent
+  none = sym (drop_of_length-le sent over)
 
-        coded-back : take m (drop at coded) ≡ ys
-        coded-back =
-            ap (take m) (drop_at (take at out) (ys ++ drop m (drop at out)) at at_long) ∙ take_at ys (drop m (drop at out)) m coded-length
-
-        pub coded-long : length (take m (drop at coded)) ≡ m
-        coded-long = ap length coded-back ∙ coded-length
-
-        pub coded-size : length coded ≡ legend_size
-        coded-size =
-            rw (length-append, length-append)
-            (omega (arith, coded-length, length-take at out, length-drop m (drop at out), length-drop at out, so_far.size, end-at sent at m e storing-first, room))
-
-        pub storing-bad : (zs : List ℕ) (b : Unprintables) → zs ≡ retext (mended_codes ps t) (take m (drop at coded))
-            → b ≡ told (so_far.places ++ unprintable_codes ps (drop head_size (take m (drop at coded))))
-            → Storing (take at coded ++ (zs ++ drop m (drop at coded))) b (at + m)
-        storing-bad zs b z u =
-            let x = take head_size first in
-            let q = codes t (drop head_size first) in
-            let six-x = length-take-le head_size first six in
-            let whole = coded-back ∙ y in
-            let text = ap (drop head_size) whole ∙ drop_at x q head_size six-x in
-            let cells = z ∙ ap (retext (mended_codes ps t)) whole
-            ∙ (λ j. take_at x q head_size six-x j ++ mended_codes ps t (drop_at x q head_size six-x j))
-            ∙ ap (λ (r : List ℕ). x ++ r) (replaced-codes ps t (drop head_size first)) in
-            let found = u ∙ ap (λ (l : List ℕ). told (so_far.places ++ unprintable_codes ps l)) text
-            ∙ ap (λ (l : List ℕ). told (so_far.places ++ l)) (unprintable-codes ps t (drop head_size first)) in
-            let front = take_at (take at out) (ys ++ drop m (drop at out)) at at_long in
-            let back =
-            ap (drop m) (drop_at (take at out) (ys ++ drop m (drop at out)) at at_long) ∙ drop_at ys (drop m (drop at out)) m coded-length in
-            rw (front, back) (storing-more zs b cells found)
-
-  pub storing-end : (out : List ℕ) (bad : Unprintables) (at : ℕ) → length sent ≤ legend_size → length sent ≤ at → Storing out bad at
-      → (take (length sent) out ++ zeros (legend_size - length sent) ≡ stored_legends (translated ps t) sent) × (bad ≡ told (in_texts sent))
-  unfolding stored_legends padded unprintable_in_texts segments cut flatten
-  storing-end out bad at room over so_far =
+  pub storing-cells : take (length sent) out ++ zeros (legend_size - length sent) ≡ stored_legends (translated ps t) sent
+  unfolding stored_legends padded segments cut flatten
+  storing-cells =
       let n = length sent in
       let f = translated ps t in
       let end : n ≡ at = omega (arith, so_far.within) in
-      let none : [] ≡ drop at sent = sym (drop_of_length-le sent over) in
       let cells : take n out ≡ stored f sent =
       sym (append-nil (take n out)) ∙ (λ i. take (end i) out ++ stored f (none i)) ∙ so_far.cells in
-      let size : n ≡ length (stored f sent) = sym (length-take-le n out (omega (arith, so_far.size))) ∙ ap length cells in (
-        λ i. cells i ++ zeros (legend_size - size i),
-        so_far.tells ∙ ap told (sym (append-nil so_far.places) ∙ ap (λ (r : List ℕ). so_far.places ++ in_texts r) none ∙ so_far.texts),
-      )
+      let size : n ≡ length (stored f sent) = sym (length-take-le n out (omega (arith, so_far.size, so_far.room))) ∙ ap length cells in
+      λ i. cells i ++ zeros (legend_size - size i)
+
+  pub storing-found : bad ≡ told (in_texts ps t sent)
+  unfolding unprintable_in_texts segments cut flatten
+  storing-found =
+      so_far.tells ∙ ap told (sym (append-nil so_far.places) ∙ ap (λ (r : List ℕ). so_far.places ++ in_texts ps t r) none ∙ so_far.texts)

@@ -7,7 +7,7 @@ use native.Mathlib.Omega.{arith}
 use lib.ListN.{length, drop, take, length-append, length-take, length-drop}
 use lib.Dec.{lit<}
 use Rattle.seq.proofs.Laws.{all_append}
-use Rattle.numbers.specs.declared.Checked.TheVariants.{Sound}
+use Rattle.std.specs.Prelude.{Ok}
 use Rattle.line.specs.Line.{unprintable_at}
 use Rattle.line.proofs.UnprintableLaws.{positions, unprintable-positions, unprintable-few}
 use Rattle.legends.specs.Legends.{head_size, segment_length, cut, segments, legend_check, unprintable_in_texts}
@@ -29,7 +29,7 @@ module _ (ps t : List ℕ) where
   all-positions end = refl
   all-positions (more {s} f fs) = all_append _ (in_text s) _ (fit-positions s f) (all-positions fs)
 
-  pub texts-positions : (r : List ℕ) → legend_check r ≡ Sound → positions (unprintable_in_texts (unprintable_at ps t) r) ≡ true
+  pub texts-positions : (r : List ℕ) → legend_check r ≡ Ok tt → positions (unprintable_in_texts (unprintable_at ps t) r) ≡ true
   unfolding unprintable_in_texts
   texts-positions r e = all-positions (segments-fit r e)
 
@@ -41,7 +41,8 @@ module _ (ps t : List ℕ) where
       let s = b ∷ bs in
       let m = segment_length s in
       let first = take m s in
-      rw length-append (omega (arith, unprintable-few ps t (drop head_size first), length-drop head_size first, length-take m s, length-drop m s, cut-few n (rest s)))
+      let few = unprintable-few ps t (drop head_size first) in
+      rw length-append (omega (arith, few, length-drop head_size first, length-take m s, length-drop m s, cut-few n (rest s)))
 
   pub texts-few : (r : List ℕ) → length (unprintable_in_texts (unprintable_at ps t) r) ≤ length r
   unfolding unprintable_in_texts segments

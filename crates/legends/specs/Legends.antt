@@ -1,15 +1,16 @@
 -- Document 01, "Copies and legends": copy modification, stored legends, and the composed copy. Every definition here is of that section, except where it
 -- names T-01 or T-03 of document 02.
 use Rattle.std.specs.Prelude.{ℕ, zero, suc, ◌+◌, ◌*◌, ◌-◌, ◌/◌, ◌%◌, Bool, false, cond, not, ◌&&◌, ◌||◌, length, get_or, take, drop, eqb, leb, ltb}
+use Rattle.std.specs.Prelude.{Ok, Err}
+use Rattle.numbers.specs.Numbers.{Checked}
 use Rattle.std.proofs.Math.Option.{Option}
 use mathlib.Core.List.{List, [], ◌∷◌, ◌++◌, map, flatten}
 use Rattle.seq.specs.Words.{any, empty, when, first_or, every, zeros, padded, zero_from}
 use Rattle.numbers.specs.declared.Cause.TheVariants.{SegmentEnds, SegmentFields}
-use Rattle.numbers.specs.declared.Checked.{Checked}
-use Rattle.numbers.specs.declared.Checked.TheVariants.{Sound, Faulty}
 use Rattle.numbers.specs.Numbers.{is_sound}
 use Rattle.numbers.specs.Sizes.{line_width, line_bytes, legend_size}
 use Rattle.line.specs.declared.Cell.{Cell}
+use Rattle.legends.specs.declared.Head.{Head}
 use Rattle.line.specs.Cells.{unruled, stored, cells_in}
 
 -- A segment, in the order of its six bytes, then its text, which has as many bytes as the segment has positions.
@@ -24,6 +25,18 @@ pub record Segment : Type 0 where
 
 abbrev pub head_size : ℕ
 head_size = 6
+
+-- Its six bytes alone.
+abbrev pub head_of : List ℕ → Head
+head_of s =
+    record {
+      first_copy = get_or s 0 0;
+      copies = get_or s 1 0;
+      first_line = get_or s 2 0;
+      lines = get_or s 3 0;
+      first_position = get_or s 4 0;
+      positions = get_or s 5 0;
+    }
 
 unfoldable pub segment_of : List ℕ → Segment
 segment_of s =
@@ -48,9 +61,9 @@ bad_head s = any (λ b. eqb b 0) (take head_size s) || not (leb 2 (get_or s 4 0 
 -- The tests of a segment in order: the record ends inside the six bytes; they say what they may not; it ends inside the text.
 abbrev pub segment_tests : List ℕ → List (Option Checked)
 segment_tests s =
-    when (ltb (length s) head_size) (Faulty SegmentEnds)
-    ∷ when (bad_head s) (Faulty SegmentFields)
-    ∷ when (ltb (length s) (segment_length s)) (Faulty SegmentEnds)
+    when (ltb (length s) head_size) (Err SegmentEnds)
+    ∷ when (bad_head s) (Err SegmentFields)
+    ∷ when (ltb (length s) (segment_length s)) (Err SegmentEnds)
     ∷ []
 
 -- Bytes cut into segments in order, the last one with what is left; what follows a faulty segment is never judged. The cut ends
@@ -69,7 +82,7 @@ segments r = cut (λ b. false) (length r) r
 
 -- Load copy modification: the first fault, taking segments in record order; an empty record counts as an end inside one.
 unfoldable pub legend_check : List ℕ → Checked
-legend_check r = first_or Sound (when (empty r) (Faulty SegmentEnds) ∷ flatten (map segment_tests (segments r)))
+legend_check r = first_or (Ok tt) (when (empty r) (Err SegmentEnds) ∷ flatten (map segment_tests (segments r)))
 
 -- What an accepted load stores: each segment with its text translated, here by f (house), and 00 after the last. A load leaves nothing of
 -- the legends before it.

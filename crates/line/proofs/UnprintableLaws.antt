@@ -1,9 +1,11 @@
--- What is told of unprintable positions: of one list of them after another; as a loop finds them; that first and number are both 0 or neither; and when it is a data check.
+-- What is told of unprintable positions: of one list of them after another; as a loop finds them; that first and number are both 0 or neither; and when it
+-- is a data check.
 use Prim.Native.Nat.{ℕ, suc, ◌+◌, ◌/◌, ◌≤◌, ◌<◌}
 use mathlib.Core.Path.{◌≡◌, refl, sym, ap, ◌∙◌}
 use mathlib.Core.Bool.{Bool, true, false, cond, not, ◌&&◌}
 use mathlib.Core.List.{List, [], ◌∷◌, ◌++◌, append-nil}
 use native.Mathlib.Omega.{arith}
+use native.Mathlib.Nat.{add-zero}
 use lib.ListN.{length, get_or, take, length-append, length-take}
 use lib.Dec.{eqb, leb}
 use borrow.Author.Tests.{leb-true, ne_eqb}
@@ -28,28 +30,45 @@ pub told-both : (ns ms : List ℕ) → (length ns ≡ 0 → ⊥) → record { fi
 told-both [] ms h = absurd (h refl)
 told-both (n ∷ ns) ms h = rw length-append refl
 
+-- one more position behind others
+told-one : (ns : List ℕ) (m : ℕ) → told (ns ++ (m ∷ [])) ≡ record { first = cond (eqb (length ns) 0) m (get_or ns 0 0); count = length ns + 1 }
+told-one [] m = refl
+told-one (n ∷ ns) m = rw (ne_eqb (suc (length ns)) 0 (λ z. omega (arith, z)), length-append) refl
+
 -- After i turns of a loop the positions of the first i elements that pass are told.
-pub record Telling (f : ℕ → Bool) (xs : List ℕ) (i first count : ℕ) : Type 0 where
-  pub first-is : first ≡ get_or (places_from f 1 (take i xs)) 0 0
-  pub count-is : count ≡ length (places_from f 1 (take i xs))
+pub record Telling (f : ℕ → Bool) (xs : List ℕ) (i : ℕ) (u : Unprintables) : Type 0 where
+  pub are : u ≡ told (places_from f 1 (take i xs))
 
 module _ (f : ℕ → Bool) (xs : List ℕ) where
-  pub telling-none : Telling f xs 0 0 0
-  telling-none = record { first-is = refl; count-is = refl }
+  pub telling-none : Telling f xs 0 (told [])
+  telling-none = record { are = refl }
 
-  pub telling-more : {i first count next bit1 : ℕ} {bad : Bool} → i < length xs → Telling f xs i first count → bad ≡ f (get_or xs i 0)
-      → next ≡ cond (bad && eqb count 0) (1 + i) first → bit1 ≡ bit bad 1 → Telling f xs (i + 1) next (count + bit1)
-  telling-more {i} h t b e w =
-      record {
-        first-is = e ∙ (λ j. cond (b j && eqb (t.count-is j) 0) (1 + i) (t.first-is j)) ∙ first_more f 0 1 i xs h;
-        count-is = (λ j. t.count-is j + (w ∙ ap (λ (x : Bool). bit x 1) b) j) ∙ count-more f 0 1 i xs h;
+  -- what is told after a turn, by whether its element passes
+  turned : (i : ℕ) → i < length xs → {t : Bool} → f (get_or xs i 0) ≡ t
+      → record {
+        first = cond (t && eqb (length (places_from f 1 (take i xs))) 0) (1 + i) (get_or (places_from f 1 (take i xs)) 0 0);
+        count = length (places_from f 1 (take i xs)) + bit t 1;
       }
+      ≡ told (places_from f 1 (take (i + 1) xs))
+  turned i h {t} e =
+      let ns = places_from f 1 (take i xs) in
+      (λ j. record { first = cond (sym e j && eqb (length ns) 0) (1 + i) (get_or ns 0 0); count = length ns + bit (sym e j) 1 })
+      ∙ (λ j. record { first = first_more f 0 1 i xs h j; count = count-more f 0 1 i xs h j })
 
-  pub telling-few : {i first count : ℕ} → Telling f xs i first count → count ≤ i
-  telling-few {i} t = omega (arith, t.count-is, places-few f 1 (take i xs), length-take i xs)
+  pub telling-with : {i : ℕ} {u v : Unprintables} → i < length xs → Telling f xs i u → f (get_or xs i 0) ≡ true
+      → v ≡ told (places_from f 1 (take i xs) ++ ((1 + i) ∷ [])) → Telling f xs (i + 1) v
+  telling-with {i} h t e w = record { are = w ∙ told-one (places_from f 1 (take i xs)) (1 + i) ∙ turned i h e }
 
-  pub telling-all : {i first count : ℕ} → length xs ≤ i → Telling f xs i first count → record { first = first; count = count } ≡ told (places_from f 1 xs)
-  telling-all {i} h t = (λ j. record { first = t.first-is j; count = t.count-is j }) ∙ ap told (places-all f 1 i xs h)
+  pub telling-past : {i : ℕ} {u v : Unprintables} → i < length xs → Telling f xs i u → f (get_or xs i 0) ≡ false → v ≡ u → Telling f xs (i + 1) v
+  telling-past {i} h t e w =
+      let ns = places_from f 1 (take i xs) in
+      record { are = w ∙ t.are ∙ (λ j. record { first = get_or ns 0 0; count = sym (add-zero (length ns)) j }) ∙ turned i h e }
+
+  pub telling-few : {i : ℕ} {u : Unprintables} → Telling f xs i u → u.count ≤ i
+  telling-few {i} t = omega (arith, ap (λ (u : Unprintables). u.count) t.are, places-few f 1 (take i xs), length-take i xs)
+
+  pub telling-all : {i : ℕ} {u : Unprintables} → length xs ≤ i → Telling f xs i u → u ≡ told (places_from f 1 xs)
+  telling-all {i} h t = t.are ∙ ap told (places-all f 1 i xs h)
 
 -- Positions that a line has; and what is told of such, where a record has no more of them than a load may have bytes.
 abbrev pub positions : List ℕ → Bool

@@ -8,14 +8,19 @@ mod merge;
 pub mod tables;
 pub mod translate;
 
-ghost use Rattle.std.specs.Prelude.{◌≡◌, ◌&&◌, List, ◌++◌, ℕ, ◌+◌, ◌≤◌, length};
-ghost use Rattle.numbers.specs.Sizes.{line_width, line_bytes, page_lines, page_size, slot_size, table_size};
+ghost use Rattle.std.specs.Prelude.{◌≡◌, ◌&&◌, List, [], ◌∷◌, ◌++◌, ℕ, ◌+◌, ◌<◌, ◌≤◌, length};
+ghost use Rattle.numbers.specs.Sizes.{line_width, line_bytes, page_lines, page_size, table_size};
 ghost use Rattle.line.specs.Cells.{stored, cells_in};
 ghost use Rattle.line.specs.Line.{serving, unprintable_at, told, line_codes, any_collides, cells_after, line_at, page_written};
 ghost use Rattle.line.specs.Line.{line_causes, or_unmatched, cause_byte};
 ghost use Rattle.line.specs.Straight.{found_of};
 
 use numbers::Stores;
+
+// The codes of the 256 bytes, and the cells of a line.
+pub type Table = [u8; Stores::SLOT_BYTES];
+
+type Line = [u8; Stores::LINE_BYTES];
 
 // A stored cell: its code, and its rule mark, 0 or 1.
 #[derive(Clone, Copy)]
@@ -55,11 +60,32 @@ impl Unprintables {
         ensures { (ns ms : List ℕ) → self ≡ told ns → next ≡ told ms → result ≡ told (ns ++ ms) }
     {
         if self.count == 0 {
-            return next;
+            next
+        } else {
+            Unprintables {
+                count: self.count + next.count,
+                ..self
+            }
         }
-        Unprintables {
-            first: self.first,
-            count: self.count + next.count,
+    }
+
+    // And of one position more, counted from 0 here.
+    fn with(self, i: usize) -> Unprintables
+        requires few { self.count ≤ i }
+        requires fits { i < 0xFFFF }
+        ensures told { (ns : List ℕ) → self ≡ told ns → result ≡ told (ns ++ ((1 + i) ∷ [])) }
+        ensures count { result.count ≡ self.count + 1 }
+    {
+        if self.count == 0 {
+            Unprintables {
+                first: (i + 1) as u16,
+                count: 1,
+            }
+        } else {
+            Unprintables {
+                count: self.count + 1,
+                ..self
+            }
         }
     }
 }
@@ -89,22 +115,25 @@ pub struct Found {
     pub collision: bool,
 }
 
-// Writes the record on the cells of a line: a first write sets them, a later one merges.
-fn put_line(cells: &mut [u8], later: bool, sent: &[u8], pitches: [u8; 4], table: &[u8]) -> Found
+// Writes the record on the cells of a line: a first write sets them, a later one merges. Pitches and table stay two parameters here and below: most passes
+// take one of the two alone, and a clause would name each through the struct that held them.
+fn put_line(cells: &mut [u8], later: bool, sent: &[u8], pitches: [u8; 4], table: &Table) -> Found
     requires cells_len { length cells.old ≡ line_bytes }
     requires sent_len_bound { length sent.now ≤ line_width }
-    requires table_len { length table.now ≡ slot_size }
     ensures cells { cells.new
         ≡ stored (cells_after later (cells_in cells.old) (line_codes pitches table.now sent.now)) }
     ensures found { let t = table.now in let s = sent.now in
         result ≡ found_of (unprintable_at pitches t s) (later && any_collides (cells_in cells.old) (line_codes pitches t s)) }
 {
+    let cells = cells.as_mut_array().unwrap();
     if later {
-        return merge::merge_line(cells, sent, pitches, table);
-    }
-    Found {
-        unprintables: first::set_line(cells, sent, pitches, table),
-        collision: false,
+        merge::merge_line(cells, sent, pitches, table)
+    } else {
+        let unprintables = first::set_line(cells, sent, pitches, table);
+        Found {
+            unprintables,
+            collision: false,
+        }
     }
 }
 
@@ -128,29 +157,25 @@ pub fn write_line(
         ≡ page_written later line (line_codes pitches (serving slots tables.now) sent.now) page.old }
     ensures causes { result ≡ line_causes pitches slots tables.now later (line_at line page.old) sent.now }
 {
-    let at = Stores::LINE_BYTES * (seq::wide(line) - 1);
+    let at = Stores::LINE_BYTES * (usize::from(line) - 1);
     let end = at + Stores::LINE_BYTES;
     let table = tables::serving(slots, tables);
     let unloaded = !tables::is_loaded(slots);
     let found = put_line(&mut page[at..end], later, sent, pitches, table);
-    let unprintables = found.unprintables;
     Causes {
-        unprintables: unprintables,
-        unloaded: unloaded,
-        unmatched: false,
+        unprintables: found.unprintables,
+        unloaded,
         collision: found.collision,
+        ..Causes::NONE
     }
 }
 
 pub fn or_unmatched(causes: Causes, missed: bool) -> Causes
     ensures { result ≡ or_unmatched causes missed }
 {
-    let unprintables = causes.unprintables;
     Causes {
-        unprintables: unprintables,
-        unloaded: causes.unloaded,
         unmatched: missed,
-        collision: causes.collision,
+        ..causes
     }
 }
 
@@ -158,9 +183,10 @@ pub fn or_unmatched(causes: Causes, missed: bool) -> Causes
 pub fn cause_byte(blocked: bool, causes: Causes) -> u8
     ensures { result ≡ cause_byte blocked causes }
 {
-    let unprintable = seq::flag((causes.unprintables.count != 0) & !blocked, 0x80);
-    let unloaded = seq::flag(causes.unloaded, 0x20);
-    let unmatched = seq::flag(causes.unmatched, 0x10);
-    let collision = seq::flag(causes.collision & !blocked, 0x08);
-    unprintable + unloaded + unmatched + collision
+    let unprintable = (causes.unprintables.count != 0) & !blocked;
+    let collision = causes.collision & !blocked;
+    0x80 * u8::from(unprintable)
+        + 0x20 * u8::from(causes.unloaded)
+        + 0x10 * u8::from(causes.unmatched)
+        + 0x08 * u8::from(collision)
 }

@@ -4,14 +4,16 @@ ghost use Rattle.seq.specs.Words.{any};
 ghost use Rattle.line.specs.Cells.{cells_in, marks_ok};
 ghost use Rattle.line.specs.Scan.{bad_mark, bad_word};
 
-// The cells of a block.
+// A block, of so many cells.
+const BLOCK_BYTES: usize = 1024;
+
 const BLOCK_CELLS: usize = 512;
 
 // Two cells as one number, which the compiler loads as one.
 fn word(code0: u8, mark0: u8, code1: u8, mark1: u8) -> u32
     ensures { result ≡ code0 + 0x100 * mark0 + 0x10000 * code1 + 0x1000000 * mark1 }
 {
-    (code0 as u32) + 0x100 * (mark0 as u32) + 0x10000 * (code1 as u32) + 0x1000000 * (mark1 as u32)
+    u32::from_le_bytes([code0, mark0, code1, mark1])
 }
 
 // Whether one of a word's two marks is above 1.
@@ -22,16 +24,13 @@ fn is_bad(word: u32) -> bool
 }
 
 // All words of a block put together by `|`, with no branch: one test then sees a high bit of any mark.
-fn any_bad(block: &[u8]) -> bool
-    requires { length block.now ≡ 1024 }
+fn any_bad(block: &[u8; BLOCK_BYTES]) -> bool
     ensures { result ≡ any bad_mark (cells_in block.now) }
 {
     let mut seen: u32 = 0;
-    let mut k = 0;
-    while k < 256 {
+    for k in 0..BLOCK_BYTES / 4 {
         let i = 4 * k;
-        seen = seen | word(block[i], block[i + 1], block[i + 2], block[i + 3]);
-        k += 1;
+        seen |= word(block[i], block[i + 1], block[i + 2], block[i + 3]);
     }
     is_bad(seen)
 }
@@ -42,15 +41,12 @@ pub fn marks_ok(page: &[u8]) -> bool
     requires { 1024 ≤ length page.now }
     ensures { result ≡ marks_ok page.now }
 {
-    let mut cell = page.len() / 2;
-    while BLOCK_CELLS < cell {
-        let first = cell - BLOCK_CELLS;
-        let at = 2 * first;
-        let end = 2 * cell;
-        if any_bad(&page[at..end]) {
+    let cells = page.len() / 2;
+    for turn in 0..cells / BLOCK_CELLS {
+        let at = 2 * (cells - BLOCK_CELLS * (turn + 1));
+        if any_bad(page[at..at + BLOCK_BYTES].as_array().unwrap()) {
             return false;
         }
-        cell = first;
     }
-    !any_bad(&page[0..2 * BLOCK_CELLS])
+    !any_bad(page.first_chunk().unwrap())
 }

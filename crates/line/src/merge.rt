@@ -1,12 +1,12 @@
 // Document 01, "Writing a line": a later write on a line merges with the old cells, cell by cell, straight on the line (T-06).
 ghost use Rattle.std.specs.Prelude.{◌≡◌, ◌+◌, ◌*◌, ◌≤◌, ◌<◌, length, replicate};
-ghost use Rattle.numbers.specs.Sizes.{line_width, line_bytes, cell_bytes, slot_size};
+ghost use Rattle.numbers.specs.Sizes.{line_width, cell_bytes};
 ghost use Rattle.line.specs.Cells.{cells_in, stored};
 ghost use Rattle.line.specs.Line.{stand_in, translated, unprintable_at, told, line_codes};
 ghost use Rattle.line.specs.Line.{is_blank, is_underscore, merge_cell, collides, merge_line, any_collides};
 ghost use Rattle.line.specs.Straight.{cell_from, put_cell, found_of};
 
-use crate::{Found, Unprintables, translate};
+use crate::{Found, Line, Table, Unprintables, translate};
 use numbers::Stores;
 
 fn is_blank(code: u8) -> bool
@@ -51,31 +51,23 @@ fn merge_at(cells: &mut [u8], at: usize, new: u8) -> bool
 }
 
 // The unprintable positions of a record.
-fn tell(sent: &[u8], pitches: [u8; 4], table: &[u8]) -> Unprintables
-    requires sent_len_bound { length sent.now ≤ line_width }
-    requires table_len { length table.now ≡ slot_size }
+fn tell(sent: &[u8], pitches: [u8; 4], table: &Table) -> Unprintables
+    requires { length sent.now ≤ line_width }
     ensures { result ≡ told (unprintable_at pitches table.now sent.now) }
 {
-    let mut first = 0u16;
-    let mut count = 0u16;
-    let mut i = 0;
-    while i < sent.len() {
-        let bad = translate::is_bad(pitches, translate::entry(table, sent[i]));
-        first = translate::first_of(first, count, bad, i);
-        count += seq::flag(bad, 1) as u16;
-        i += 1;
+    let mut told = Unprintables::NONE;
+    for (i, &byte) in sent.iter().enumerate() {
+        if translate::is_bad(pitches, translate::entry(table, byte)) {
+            told = told.with(i);
+        }
     }
-    Unprintables {
-        first: first,
-        count: count,
-    }
+    told
 }
 
 // Merges the record's codes, each with the stand-in in its place where it is unprintable.
-fn merge_record(cells: &mut [u8], sent: &[u8], pitches: [u8; 4], other: u8, table: &[u8]) -> Found
+fn merge_record(cells: &mut [u8], sent: &[u8], pitches: [u8; 4], other: u8, table: &Table) -> Found
     requires cells_len { length cells.old ≡ cell_bytes * length sent.now }
     requires sent_len_bound { length sent.now ≤ line_width }
-    requires table_len { length table.now ≡ slot_size }
     requires other_value { other ≡ stand_in pitches table.now }
     ensures cells { cells.new
         ≡ stored (merge_line (cells_in cells.old) (translated pitches table.now sent.now)) }
@@ -84,22 +76,20 @@ fn merge_record(cells: &mut [u8], sent: &[u8], pitches: [u8; 4], other: u8, tabl
 {
     let mut bad = false;
     let mut clash = false;
-    let mut i = 0;
-    while i < sent.len() {
-        let code = translate::entry(table, sent[i]);
+    for (i, &byte) in sent.iter().enumerate() {
+        let code = translate::entry(table, byte);
         let stands = translate::is_bad(pitches, code);
-        bad = bad | stands;
-        clash = clash | merge_at(cells, 2 * i, seq::pick(stands, other, code));
-        i += 1;
+        bad |= stands;
+        let new = if stands { other } else { code };
+        clash |= merge_at(cells, 2 * i, new);
     }
-    if bad {
-        return Found {
-            unprintables: tell(sent, pitches, table),
-            collision: clash,
-        };
-    }
+    let unprintables = if bad {
+        tell(sent, pitches, table)
+    } else {
+        Unprintables::NONE
+    };
     Found {
-        unprintables: Unprintables::NONE,
+        unprintables,
         collision: clash,
     }
 }
@@ -114,19 +104,15 @@ fn merge_fill(cells: &mut [u8], count: usize, code: u8) -> bool
         return false;
     }
     let mut clash = false;
-    let mut i = 0;
-    while i < count {
-        clash = clash | merge_at(cells, 2 * i, code);
-        i += 1;
+    for i in 0..count {
+        clash |= merge_at(cells, 2 * i, code);
     }
     clash
 }
 
 // The record's codes are merged, and the stand-in after them.
-pub fn merge_line(cells: &mut [u8], sent: &[u8], pitches: [u8; 4], table: &[u8]) -> Found
-    requires cells_len { length cells.old ≡ line_bytes }
-    requires sent_len_bound { length sent.now ≤ line_width }
-    requires table_len { length table.now ≡ slot_size }
+pub fn merge_line(cells: &mut Line, sent: &[u8], pitches: [u8; 4], table: &Table) -> Found
+    requires { length sent.now ≤ line_width }
     ensures cells { cells.new
         ≡ stored (merge_line (cells_in cells.old) (line_codes pitches table.now sent.now)) }
     ensures found { let t = table.now in let s = sent.now in
@@ -141,9 +127,8 @@ pub fn merge_line(cells: &mut [u8], sent: &[u8], pitches: [u8; 4], table: &[u8])
         Stores::LINE_CELLS - n,
         other,
     );
-    let unprintables = found.unprintables;
     Found {
-        unprintables: unprintables,
         collision: found.collision | clash,
+        ..found
     }
 }

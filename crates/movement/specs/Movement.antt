@@ -1,6 +1,6 @@
 -- Document 01, "Movement": the lines that a space enters and a skip looks at, and what is reported of them. Every definition here is of
 -- that section, except T-05's `is_there`.
-use Rattle.std.specs.Prelude.{ℕ, zero, suc, ◌+◌, ◌-◌, ◌≤◌, Bool, false, cond, not, List, [], ◌∷◌, ◌++◌, map, length, eqb, ltb}
+use Rattle.std.specs.Prelude.{ℕ, zero, suc, ◌+◌, ◌-◌, ◌≤◌, Bool, false, cond, not, ◌||◌, List, [], ◌∷◌, ◌++◌, map, length, eqb, ltb}
 use Rattle.seq.specs.Words.{any, last_or, from}
 use Rattle.movement.specs.declared.Motion.{Motion}
 use Rattle.movement.specs.declared.Motion.TheVariants.{Space, Skip}
@@ -39,6 +39,13 @@ up_to_first f (s ∷ ss) = s ∷ cond (f s) [] (up_to_first f ss)
 -- Whether a line has the channel; ls are the bytes of the printable lines.
 abbrev pub has : List ℕ → ℕ → Spot → Bool
 has ls channel s = eqb (channel_at ls s.line) channel
+
+-- A movement that enters one line more, and what is reported of it.
+abbrev pub entering : List ℕ → Moved → ℕ → Moved
+entering ls m line =
+    let nine = m.nine || eqb (channel_at ls line) 9 in
+    let twelve = m.twelve || eqb (channel_at ls line) 12 in
+    record { lines = m.lines + 1; pages = m.pages; line = line; nine = nine; twelve = twelve; missed = m.missed }
 
 -- Spacing: its lines moved are those entered; channels 9 and 12 are reported of every one, line 1 of the next form too (house).
 unfoldable pub spaced : List ℕ → ℕ → ℕ → Moved

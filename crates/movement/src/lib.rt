@@ -1,10 +1,12 @@
 // Document 01, "Movement": spacing, skipping, and either on a part of an FCB.
 #![tactic(auto)]
 
-ghost use Rattle.std.specs.Prelude.{◌≡◌, cond, ◌&&◌, ◌+◌, ◌-◌, ◌≤◌, ltb, length, take, drop};
+ghost use Rattle.std.specs.Prelude.{◌≡◌, ◌<◌, cond, ◌&&◌, ◌+◌, ◌-◌, ◌≤◌, ltb, length, take, drop};
 ghost use Rattle.numbers.specs.Sizes.{page_lines};
 ghost use Rattle.form.specs.Form.{channel_at, fcb_size};
-ghost use Rattle.movement.specs.Movement.{OnForm, round, up_to_first, has, spaced, skipped, moved, is_there, still};
+ghost use Rattle.movement.specs.Movement.{OnForm, round, up_to_first, has, entering, spaced, skipped, moved, is_there, still};
+
+use form::Forms;
 
 // What a command asks of the form: to space so many lines, or to skip to a channel.
 #[derive(Clone, Copy)]
@@ -36,13 +38,14 @@ impl Moved {
     };
 
     // No movement.
+    #[tactic(auto, unfolding(crate::specs::Movement::still))]
     pub fn still(line: u8) -> Moved
         ensures { result ≡ still line }
     {
         Moved {
             lines: 0,
             pages: 0,
-            line: line,
+            line,
             nine: false,
             twelve: false,
             missed: false,
@@ -50,147 +53,159 @@ impl Moved {
     }
 }
 
-fn channel_at(lines: &[u8], line: u8) -> u8
-    requires le_line { 1 ≤ line }
-    requires line_in_bounds { line ≤ length lines.now }
-    ensures { result ≡ channel_at lines.now line }
-{
-    let at = seq::wide(line) - 1;
-    lines[at] % 16
+// A line of a form: the bytes of its printable lines, as many as a page has at most, and the current one of them.
+#[derive(Clone, Copy)]
+pub struct Place<'a> {
+    pub lines: &'a [u8],
+    pub line: u8,
+    pub ghost on_form: { OnForm lines.now line },
 }
 
-// Spaces n lines, one at a time.
-fn space(lines: &[u8], line: u8, n: u8) -> Moved
-    requires { OnForm lines.now line }
-    ensures { result ≡ spaced lines.now line n }
-{
-    let last = lines.len() as u8;
-    let mut at = line;
-    let mut nine = false;
-    let mut twelve = false;
-    let mut k = 0;
-    while k < n {
-        if at == last {
-            let channel = channel_at(lines, 1);
+impl Place<'_> {
+    // The last line, P.
+    fn last(&self) -> u8
+        ensures { result ≡ length self.now.lines.now }
+    {
+        self.lines.len() as u8
+    }
+
+    #[tactic(auto, unfolding(form::specs::Form::channel_at))]
+    fn channel_at(&self, line: u8) -> u8
+        requires le_line { 1 ≤ line }
+        requires line_in_bounds { line ≤ length self.now.lines.now }
+        ensures { result ≡ channel_at self.now.lines.now line }
+    {
+        self.lines[usize::from(line) - 1] % 16
+    }
+
+    // A movement that enters one line more, with what its channel reports.
+    fn enter(&self, moved: Moved, line: u8) -> Moved
+        requires le_line { 1 ≤ line }
+        requires line_in_bounds { line ≤ length self.now.lines.now }
+        requires lines_fit { moved.lines < 255 }
+        ensures { result ≡ entering self.now.lines.now moved line }
+    {
+        let channel = self.channel_at(line);
+        Moved {
+            lines: moved.lines + 1,
+            line,
+            nine: moved.nine | (channel == 9),
+            twelve: moved.twelve | (channel == 12),
+            ..moved
+        }
+    }
+
+    // Spaces n lines, one at a time.
+    fn space(&self, n: u8) -> Moved
+        ensures { result ≡ spaced self.now.lines.now self.now.line n }
+    {
+        let mut moved = Moved::still(self.line);
+        for _ in 0..n {
+            if moved.line == self.last() {
+                return Moved {
+                    pages: 1,
+                    ..self.enter(moved, 1)
+                };
+            }
+            moved = self.enter(moved, moved.line + 1);
+        }
+        moved
+    }
+
+    // The line that is `count` lines on, from P round to 1.
+    fn line_after(&self, count: u8) -> u8
+        requires le_count { 1 ≤ count }
+        requires count_le_last { count ≤ length self.now.lines.now }
+        ensures value { let below = length self.now.lines.now - self.now.line in
+            result ≡ cond (ltb below count) (count - below) (self.now.line + count) }
+        ensures some { 1 ≤ result }
+        ensures on { result ≤ length self.now.lines.now }
+    {
+        let below = self.last() - self.line;
+        if below < count {
+            count - below
+        } else {
+            self.line + count
+        }
+    }
+
+    // How many lines a skip looks at: up to the match, all P if there is none.
+    pub fn search(&self, channel: u8) -> u8
+        ensures { result ≡ length (up_to_first (has self.now.lines.now channel) (round (length self.now.lines.now) self.now.line)) }
+    {
+        let last = self.last();
+        for count in 1..=last {
+            let line = self.line_after(count);
+            if self.channel_at(line) == channel {
+                return count;
+            }
+        }
+        last
+    }
+
+    // The last line looked at tells whether one matched.
+    fn skip(&self, channel: u8) -> Moved
+        ensures { result ≡ skipped self.now.lines.now self.now.line channel }
+    {
+        let count = self.search(channel);
+        let line = self.line_after(count);
+        if self.channel_at(line) == channel {
             return Moved {
-                lines: k + 1,
-                pages: 1,
-                line: 1,
-                nine: nine | (channel == 9),
-                twelve: twelve | (channel == 12),
-                missed: false,
+                lines: count,
+                pages: u8::from(self.last() - self.line < count),
+                ..Moved::still(line)
             };
         }
-        at += 1;
-        let channel = channel_at(lines, at);
-        nine = nine | (channel == 9);
-        twelve = twelve | (channel == 12);
-        k += 1;
-    }
-    Moved {
-        lines: k,
-        pages: 0,
-        line: at,
-        nine: nine,
-        twelve: twelve,
-        missed: false,
-    }
-}
-
-// The line that is `count` lines on, from P round to 1.
-fn line_after(last: u8, line: u8, count: u8) -> u8
-    requires line_le_last { line ≤ last }
-    requires le_count { 1 ≤ count }
-    requires count_le_last { count ≤ last }
-    ensures { (result ≡ cond (ltb (last - line) count) (count - (last - line)) (line + count)) × ((1 ≤ result) × (result ≤ last)) }
-{
-    let below = last - line;
-    if below < count {
-        return count - below;
-    }
-    line + count
-}
-
-// How many lines a skip looks at: up to the match, all P if there is none.
-pub fn search(lines: &[u8], line: u8, channel: u8) -> u8
-    requires { OnForm lines.now line }
-    ensures { result ≡ length (up_to_first (has lines.now channel) (round (length lines.now) line)) }
-{
-    let last = lines.len() as u8;
-    let mut count = 0;
-    while count < last {
-        count += 1;
-        let at = line_after(last, line, count);
-        if channel_at(lines, at) == channel {
-            return count;
+        Moved {
+            lines: count,
+            missed: true,
+            ..Moved::TOP
         }
     }
-    count
-}
 
-// The last line looked at tells whether one matched.
-fn skip(lines: &[u8], line: u8, channel: u8) -> Moved
-    requires { OnForm lines.now line }
-    ensures { result ≡ skipped lines.now line channel }
-{
-    let last = lines.len() as u8;
-    let count = search(lines, line, channel);
-    let at = line_after(last, line, count);
-    if channel_at(lines, at) == channel {
-        let pages = seq::flag(last - line < count, 1);
-        return Moved {
-            lines: count,
-            pages: pages,
-            line: at,
-            nine: false,
-            twelve: false,
-            missed: false,
-        };
+    // T-05: a skip leads to the current line, which has its channel.
+    #[tactic(auto, unfolding(crate::specs::Movement::is_there))]
+    fn is_there(&self, motion: Motion) -> bool
+        ensures { result ≡ is_there self.now.lines.now self.now.line motion }
+    {
+        match motion {
+            Motion::Space(_) => false,
+            Motion::Skip(channel) => self.channel_at(self.line) == channel,
+        }
     }
-    Moved {
-        lines: count,
-        pages: 1,
-        line: 1,
-        nine: false,
-        twelve: false,
-        missed: true,
-    }
-}
 
-// T-05: a skip leads to the current line, which has its channel.
-fn is_there(lines: &[u8], line: u8, motion: Motion) -> bool
-    requires { OnForm lines.now line }
-    ensures { result ≡ is_there lines.now line motion }
-{
-    match motion {
-        Motion::Space(n) => false,
-        Motion::Skip(channel) => channel_at(lines, line) == channel,
+    #[tactic(auto, unfolding(crate::specs::Movement::moved))]
+    fn move_lines(&self, motion: Motion) -> Moved
+        ensures { result ≡ moved self.now.lines.now self.now.line motion }
+    {
+        match motion {
+            Motion::Space(n) => self.space(n),
+            Motion::Skip(channel) => self.skip(channel),
+        }
+    }
+
+    // Where it may, the form stands if it is there.
+    fn move_or_stand(&self, may: bool, motion: Motion) -> Moved
+        ensures { let ls = self.now.lines.now in let line = self.now.line in
+            result ≡ cond (may && is_there ls line motion) (still line) (moved ls line motion) }
+    {
+        if may && self.is_there(motion) {
+            Moved::still(self.line)
+        } else {
+            self.move_lines(motion)
+        }
     }
 }
 
-fn move_lines(lines: &[u8], line: u8, motion: Motion) -> Moved
-    requires { OnForm lines.now line }
-    ensures { result ≡ moved lines.now line motion }
-{
-    match motion {
-        Motion::Space(n) => space(lines, line, n),
-        Motion::Skip(channel) => skip(lines, line, channel),
-    }
-}
-
-fn move_or_stand(lines: &[u8], line: u8, may: bool, motion: Motion) -> Moved
-    requires { OnForm lines.now line }
-    ensures { result ≡ cond (may && is_there lines.now line motion) (still line) (moved lines.now line motion) }
-{
-    if may & is_there(lines, line, motion) {
-        return Moved::still(line);
-    }
-    move_lines(lines, line, motion)
-}
-
-// The printable lines are a part of the FCB: `lines` of them after the first `top`. Where it may, the form stands if it is there.
-pub fn move_form(fcb: &[u8], top: u16, lines: u16, line: u8, may: bool, motion: Motion) -> Moved
-    requires fcb_len { length fcb.now ≡ fcb_size }
+// The printable lines are a part of the FCB: `lines` of them after the first `top`.
+pub fn move_form(
+    fcb: &[u8; Forms::FCB_BYTES],
+    top: u16,
+    lines: u16,
+    line: u8,
+    may: bool,
+    motion: Motion,
+) -> Moved
     requires lines_bound { top + lines ≤ fcb_size }
     requires lines_le_page_lines { lines ≤ page_lines }
     requires le_line { 1 ≤ line }
@@ -198,7 +213,11 @@ pub fn move_form(fcb: &[u8], top: u16, lines: u16, line: u8, may: bool, motion: 
     ensures { let ls = take lines (drop top fcb.now) in
         result ≡ cond (may && is_there ls line motion) (still line) (moved ls line motion) }
 {
-    let at = top as usize;
-    let end = at + lines as usize;
-    move_or_stand(&fcb[at..end], line, may, motion)
+    let at = usize::from(top);
+    let end = at + usize::from(lines);
+    let place = Place {
+        lines: &fcb[at..end],
+        line,
+    };
+    place.move_or_stand(may, motion)
 }

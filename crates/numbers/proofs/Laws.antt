@@ -9,11 +9,11 @@ use mathlib.Core.List.{List, [], ◌∷◌, ◌++◌, map}
 use native.Mathlib.Omega.{arith}
 use borrow.Author.Tests.{eq-eqb}
 use Rattle.seq.specs.Words.{first_or, when, listed, from}
+use Rattle.std.specs.Prelude.{Ok, Err}
+use Rattle.numbers.specs.Numbers.{Checked}
 use Rattle.seq.proofs.Laws.{First, here, later}
 use Rattle.numbers.specs.declared.Cause.{Cause}
 use Rattle.numbers.specs.declared.Cause.TheVariants.{FcbChannel, FcbSpacing, FcbSum, FcbEdge, TableShort, SequencePairs, SequenceCounts, NumberRecord, SegmentEnds, SegmentFields}
-use Rattle.numbers.specs.declared.Checked.{Checked}
-use Rattle.numbers.specs.declared.Checked.TheVariants.{Sound, Faulty}
 use Rattle.numbers.specs.declared.Refusal.{Refusal}
 use Rattle.numbers.specs.declared.Refusal.TheVariants.{Accepted, NotListed, BadRecord, LoadCheck, PageWaiting, PageStarted, NoPage, BadIndex, TooShort, BadStore, BadForm, TwoPages, NoneBetween, MostBetween, BadPaper}
 use Rattle.numbers.specs.declared.Row.{Row}
@@ -35,14 +35,13 @@ pub every-cause : map (λ c. (cause_of 0 c).number)
 unfolding cause_of
 every-cause = refl
 
--- a fault is not sound, and what is sound is `Sound`
-pub faulty : {c : Cause} → Faulty c ≡ Sound → ⊥
+-- a fault is not sound, and what is sound is `Ok tt`
+pub faulty : {c : Cause} → ◌≡◌ {A = Checked} (Err c) (Ok tt) → ⊥
 faulty e = let z : ◌≡◌ {A = ℕ} 0 1 = cc in omega arith
 
-pub sound-is : (d : Checked) → is_sound d ≡ true → d ≡ Sound
-unfolding is_sound
-sound-is Sound e = refl
-sound-is (Faulty c) e = absurd (false≢true e)
+pub sound-is : (d : Checked) → is_sound d ≡ true → d ≡ Ok tt
+sound-is (Ok tt) e = refl
+sound-is (Err c) e = absurd (false≢true e)
 
 -- Refusals 1, 3 and 5 set the sense anew, and the others do not; unit check, 0E, is shown exactly where there is something to tell.
 abbrev pub is_anew : SenseStep → Bool
@@ -147,11 +146,11 @@ unfolding is_accepted row_of
 not-accepted n e = true≢false (sym (ap is_accepted e) ∙ n)
 
 -- where none of an order held, a load's check found nothing
-pub passed-check : (d : Checked) (ts : List (Option Refusal)) → first_or Accepted (checked d ∷ ts) ≡ Accepted → (d ≡ Sound) ×
+pub passed-check : (d : Checked) (ts : List (Option Refusal)) → first_or Accepted (checked d ∷ ts) ≡ Accepted → (d ≡ Ok tt) ×
     (first_or Accepted ts ≡ Accepted)
 unfolding first_or checked is_accepted row_of
-passed-check Sound ts e = (refl, e)
-passed-check (Faulty c) ts e = absurd (not-accepted {x = LoadCheck c} refl e)
+passed-check (Ok tt) ts e = (refl, e)
+passed-check (Err c) ts e = absurd (not-accepted {x = LoadCheck c} refl e)
 
 -- an order that gives another number than its first entry has goes on after it
 pub goes_on : (x : Refusal) {y : Refusal} (b : Bool) (ts : List (Option Refusal)) → eqb (number_of x) (number_of y) ≡ false
@@ -161,11 +160,11 @@ goes_on x true ts n e = absurd (false≢true (sym n ∙ eq-eqb _ _ (ap number_of
 goes_on x false ts n e = (refl, e)
 
 -- a load's check as an entry of an order: it finds a fault, or nothing
-pub check-hit : {d : Checked} {c : Cause} {ts : List (Option Refusal)} → d ≡ Faulty c → First Accepted (checked d ∷ ts) (LoadCheck c)
+pub check-hit : {d : Checked} {c : Cause} {ts : List (Option Refusal)} → d ≡ Err c → First Accepted (checked d ∷ ts) (LoadCheck c)
 unfolding checked
 check-hit e = rw e here
 
-pub check-pass : {d : Checked} {x : Refusal} {ts : List (Option Refusal)} → d ≡ Sound → First Accepted ts x → First Accepted (checked d ∷ ts) x
+pub check-pass : {d : Checked} {x : Refusal} {ts : List (Option Refusal)} → d ≡ Ok tt → First Accepted ts x → First Accepted (checked d ∷ ts) x
 unfolding checked
 check-pass e f = rw e (later f)
 
@@ -180,8 +179,8 @@ number-not n false x ts e h = h
 pub number-check : (n : ℕ) (d : Checked) (ts : List (Option Refusal)) → eqb 3 n ≡ false
     → eqb (number_of (first_or Accepted ts)) n ≡ false → eqb (number_of (first_or Accepted (checked d ∷ ts))) n ≡ false
 unfolding first_or checked row_of
-number-check n Sound ts e h = h
-number-check n (Faulty c) ts e h = e
+number-check n (Ok tt) ts e h = h
+number-check n (Err c) ts e h = e
 
 pub number-none : (n : ℕ) → eqb 0 n ≡ false → eqb (number_of (first_or Accepted [])) n ≡ false
 unfolding row_of first_or

@@ -1,5 +1,5 @@
 -- Document 01, "Numbers": the table, a row a line. Every definition here is of that section.
-use Rattle.std.specs.Prelude.{ℕ, ◌/◌, ◌%◌, Bool, true, false, eqb}
+use Rattle.std.specs.Prelude.{ℕ, ◌/◌, ◌%◌, Bool, false, eqb, Result, Ok, Err, is_ok}
 use Rattle.std.proofs.Math.Option.{Option, none, some}
 use Rattle.numbers.specs.declared.Sense.{Sense}
 use Rattle.numbers.specs.declared.SenseStep.{SenseStep}
@@ -9,8 +9,6 @@ use Rattle.numbers.specs.declared.Row.{Row}
 use Rattle.numbers.specs.declared.Answer.{Answer}
 use Rattle.numbers.specs.declared.Cause.{Cause}
 use Rattle.numbers.specs.declared.Cause.TheVariants.{FcbChannel, FcbSpacing, FcbSum, FcbEdge, TableShort, SequencePairs, SequenceCounts, NumberRecord, SegmentEnds, SegmentFields}
-use Rattle.numbers.specs.declared.Checked.{Checked}
-use Rattle.numbers.specs.declared.Checked.TheVariants.{Sound, Faulty}
 use Rattle.numbers.specs.declared.Refusal.{Refusal}
 use Rattle.numbers.specs.declared.Refusal.TheVariants.{Accepted, NotListed, BadRecord, LoadCheck, PageWaiting, PageStarted, NoPage, BadIndex, TooShort, BadStore, BadForm, TwoPages, NoneBetween, MostBetween, BadPaper}
 
@@ -86,11 +84,14 @@ is_accepted x = eqb (number_of x) 0
 abbrev pub only : Refusal → ℕ → Answer
 only x status = record { refusal = x; status = status; ready = false; lines = 0; copy = 0; mark = 0; first = 0; count = 0 }
 
--- What a load's check finds, as an entry of an order.
-unfoldable pub checked : Checked → Option Refusal
-checked Sound = none
-checked (Faulty c) = some (LoadCheck c)
+-- What a load's check of a record finds: nothing, or which cause of its load's order came first.
+abbrev pub Checked : Type 0
+Checked = Result Unit Cause
 
-unfoldable pub is_sound : Checked → Bool
-is_sound Sound = true
-is_sound (Faulty c) = false
+-- The same as an entry of an order.
+unfoldable pub checked : Checked → Option Refusal
+checked (Ok tt) = none
+checked (Err c) = some (LoadCheck c)
+
+abbrev pub is_sound : Checked → Bool
+is_sound d = is_ok d

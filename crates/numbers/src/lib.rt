@@ -2,7 +2,7 @@
 #![tactic(auto)]
 
 ghost use Rattle.std.specs.Prelude.{◌≡◌};
-ghost use Rattle.numbers.specs.Numbers.{sense3, sense_after, row_with, row_telling, check_row, causing, sum_caused, cause_of, row_of, is_accepted, only, is_sound};
+ghost use Rattle.numbers.specs.Numbers.{sense3, sense_after, row_with, row_telling, check_row, causing, sum_caused, cause_of, row_of, is_accepted, only};
 
 // The lent stores. Their bytes are the host's; their sizes, and a line's, stand here.
 #[derive(Clone, Copy)]
@@ -26,7 +26,8 @@ impl Stores {
     pub const TABLE_BYTES: usize = 4 * Stores::SLOT_BYTES;
 }
 
-// The rows of the paper's table of numbers, T-02's two, and T-04's. Accepted, row 0, is no refusal.
+// The rows of the paper's table of numbers, T-02's two, and T-04's. Accepted, row 0, is no refusal: the answer holds an enum by document 01, and `row_of` and
+// the theorems are over all its rows. Orders answer a Result.
 #[derive(Clone, Copy)]
 pub enum Refusal {
     Accepted,
@@ -61,13 +62,6 @@ pub enum Cause {
     SegmentFields,
 }
 
-// What a load's check of a record finds.
-#[derive(Clone, Copy)]
-pub enum Checked {
-    Sound,
-    Faulty(Cause),
-}
-
 #[derive(Clone, Copy)]
 pub struct Answer {
     pub refusal: Refusal,
@@ -76,7 +70,7 @@ pub struct Answer {
     pub lines: u8,
     pub copy: u16,
     pub mark: u8,
-    // Of a write or a legend load: the first unprintable position, from 1, or 0 for none; and how many there are.
+    // Of a write or a legend load: the first unprintable position, from 1, or 0 for none, as the C interface packs it; and how many there are.
     pub first: u16,
     pub count: u16,
 }
@@ -115,17 +109,6 @@ pub struct Sense {
     pub b23: u8,
 }
 
-impl Checked {
-    pub fn is_sound(self) -> bool
-        ensures { result ≡ is_sound self }
-    {
-        match self {
-            Checked::Sound => true,
-            Checked::Faulty(cause) => false,
-        }
-    }
-}
-
 impl Sense {
     // How many bytes Sense replies.
     pub const REPLY_BYTES: usize = 24;
@@ -155,11 +138,10 @@ pub fn sense3(b0: u8, b1: u8, b2: u8) -> Sense
     ensures { result ≡ sense3 b0 b1 b2 }
 {
     Sense {
-        b0: b0,
-        b1: b1,
-        b2: b2,
-        b22: 0,
-        b23: 0,
+        b0,
+        b1,
+        b2,
+        ..Sense::CLEAR
     }
 }
 
@@ -169,8 +151,8 @@ impl Answer {
         ensures { result ≡ only refusal status }
     {
         Answer {
-            refusal: refusal,
-            status: status,
+            refusal,
+            status,
             ready: false,
             lines: 0,
             copy: 0,
@@ -186,9 +168,9 @@ fn row_with(number: u8, status: u8, sense: SenseStep) -> Row
     ensures { result ≡ row_with number status sense }
 {
     Row {
-        number: number,
-        status: status,
-        sense: sense,
+        number,
+        status,
+        sense,
         cause: 0,
     }
 }
@@ -197,30 +179,16 @@ fn row_with(number: u8, status: u8, sense: SenseStep) -> Row
 fn row_telling(number: u8, b0: u8, b1: u8) -> Row
     ensures { result ≡ row_telling number b0 b1 }
 {
-    Row {
-        number: number,
-        status: 0x0E,
-        sense: SenseStep::Anew(Sense {
-            b0: b0,
-            b1: b1,
-            b2: 0,
-            b22: 0,
-            b23: 0,
-        }),
-        cause: 0,
-    }
+    row_with(number, 0x0E, SenseStep::Anew(sense3(b0, b1, 0)))
 }
 
 // The row of a load check.
 fn check_row(caused: Caused) -> Row
     ensures { result ≡ check_row caused }
 {
-    let sense = caused.sense;
     Row {
-        number: 3,
-        status: 0x0E,
-        sense: SenseStep::Anew(sense),
         cause: caused.number,
+        ..row_with(3, 0x0E, SenseStep::Anew(caused.sense))
     }
 }
 
@@ -229,14 +197,8 @@ fn causing(number: u8, b1: u8, b2: u8) -> Caused
     ensures { result ≡ causing number b1 b2 }
 {
     Caused {
-        number: number,
-        sense: Sense {
-            b0: 0x02,
-            b1: b1,
-            b2: b2,
-            b22: 0,
-            b23: 0,
-        },
+        number,
+        sense: sense3(0x02, b1, b2),
     }
 }
 
@@ -244,20 +206,20 @@ fn causing(number: u8, b1: u8, b2: u8) -> Caused
 fn sum_caused(count: u16) -> Caused
     ensures { result ≡ sum_caused count }
 {
+    let [b22, b23] = count.to_be_bytes();
     Caused {
         number: 3,
         sense: Sense {
-            b0: 0x02,
-            b1: 0x08,
-            b2: 0,
-            b22: (count / 256) as u8,
-            b23: (count % 256) as u8,
+            b22,
+            b23,
+            ..sense3(0x02, 0x08, 0)
         },
     }
 }
 
 impl Cause {
     // What it shows; `count` is the record's byte count.
+    #[tactic(auto, unfolding(crate::specs::Numbers::cause_of))]
     fn shows(self, count: u16) -> Caused
         ensures { result ≡ cause_of count self }
     {
@@ -278,6 +240,7 @@ impl Cause {
 
 impl Refusal {
     // Its row; `count` is the record's byte count.
+    #[tactic(auto, unfolding(crate::specs::Numbers::row_of))]
     pub fn row(self, count: u16) -> Row
         ensures { result ≡ row_of count self }
     {
@@ -300,10 +263,10 @@ impl Refusal {
         }
     }
 
+    #[tactic(auto, unfolding(crate::specs::Numbers::is_accepted))]
     pub fn is_accepted(self) -> bool
         ensures { result ≡ is_accepted self }
     {
-        let row = self.row(0);
-        row.number == 0
+        self.row(0).number == 0
     }
 }

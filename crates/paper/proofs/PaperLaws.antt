@@ -45,9 +45,12 @@ passes copies form e =
 abbrev pub most_product : ℕ
 most_product = most_count * most_copies * longest
 
+pub factors_most : (pages copies form : ℕ) → bad_paper copies form ≡ false → pages ≤ most_count → pages * copies * form ≤ most_product
+factors_most pages copies form e h = let g = passes _ _ e in mul-le-mul (mul-le-mul h g.few) g.short
+
 pub product-most : (t : Sent) → bad_paper t.copies t.form ≡ false → product t ≤ most_product
 unfolding product
-product-most t e = let g = passes _ _ e in mul-le-mul (mul-le-mul (between-most t.final t.initial) g.few) g.short
+product-most t e = factors_most _ _ _ e (between-most t.final t.initial)
 
 -- no paper, or a page of the shortest form at least
 pub product-least : (t : Sent) → bad_paper t.copies t.form ≡ false → (product t ≡ 0) ⊎ (shortest ≤ product t)

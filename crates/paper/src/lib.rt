@@ -7,7 +7,7 @@ ghost use Rattle.paper.specs.Feet.{foot_units, sent, bad_paper, product, nearest
 use copies::Copies;
 use numbers::Refusal;
 
-// What is answered: whether the numbers are refused, and the feet.
+// What is answered: whether the numbers are refused, and the feet. No Result: the C call answers 0 feet with a refusal, and `paper_used` has both.
 #[derive(Clone, Copy)]
 pub struct Paper {
     pub refusal: Refusal,
@@ -20,19 +20,21 @@ impl Paper {
 }
 
 // Refusal 16.
+#[tactic(auto, unfolding(crate::specs::Feet::bad_paper))]
 fn is_bad(copies: u32, form: u32) -> bool
     ensures { result ≡ bad_paper copies form }
 {
-    !form::fcb::length_listed(form) | ((copies == 0) | ((Copies::MOST_COPIES as u32) < copies))
+    !form::fcb::length_listed(form) || !(1..=u32::from(Copies::MOST_COPIES)).contains(&copies)
 }
 
 // Pages times copies times form length, exactly.
+#[tactic(auto, unfolding(crate::specs::Feet::product))]
 fn product(initial: u16, last: u16, copies: u32, form: u32) -> u64
     requires { bad_paper copies form ≡ false }
     ensures { result ≡ product (sent initial last copies form) }
 {
     let pages = counters::between(last, initial);
-    (pages as u64) * (copies as u64) * (form as u64)
+    u64::from(pages) * u64::from(copies) * u64::from(form)
 }
 
 // One division, of a number that a double has exactly.
@@ -44,17 +46,19 @@ fn feet(product: u64) -> f64
 }
 
 // Refused, or the feet.
+#[tactic(auto, unfolding(crate::specs::Feet::paper_used))]
 pub fn used(initial: u16, last: u16, copies: u32, form: u32) -> Paper
     ensures { result ≡ paper_used (sent initial last copies form) }
 {
     if is_bad(copies, form) {
-        return Paper {
+        Paper {
             refusal: Refusal::BadPaper,
             feet: 0.0,
-        };
-    }
-    Paper {
-        refusal: Refusal::Accepted,
-        feet: feet(product(initial, last, copies, form)),
+        }
+    } else {
+        Paper {
+            refusal: Refusal::Accepted,
+            feet: feet(product(initial, last, copies, form)),
+        }
     }
 }

@@ -1,7 +1,7 @@
 -- What the methods of an accepted call may count on, each fact by its name. p, l and t are the bytes of page, legends and tables.
 use Rattle.std.specs.Prelude.{ℕ, ◌+◌, ◌*◌, ◌≤◌, ◌≡◌, true, List, length}
+use Rattle.std.specs.Prelude.{Ok}
 use Rattle.numbers.specs.Sizes.{line_width, line_bytes, page_lines, page_size, legend_size, slot_size, table_size}
-use Rattle.numbers.specs.declared.Checked.TheVariants.{Sound}
 use Rattle.form.specs.declared.Layout.{Layout}
 use Rattle.form.specs.Form.{fcb_size}
 use Rattle.legends.specs.Legends.{legend_check, legends_ok}
@@ -40,7 +40,7 @@ pub record LoadsTable (s : State) (sent t : List ℕ) : Type 0 where
 
 pub record LoadsLegends (s : State) (sent l t : List ℕ) : Type 0 where
   pub slot : s.slots.selected ≤ 3
-  pub sound : legend_check sent ≡ Sound
+  pub sound : legend_check sent ≡ Ok tt
   pub short : length sent ≤ legend_size
   pub legends : length l ≡ legend_size
   pub tables : length t ≡ table_size

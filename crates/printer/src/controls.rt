@@ -10,38 +10,43 @@ ghost use Rattle.printer.specs.Worlds.{core_of, outcome, Did};
 ghost use Rattle.printer.specs.Premises.{Resets};
 
 use crate::{Printer, Step};
+use calls::State;
 use line::Causes;
-use numbers::{Answer, Refusal, Sense};
+use numbers::Sense;
 
 impl Printer {
+    #[tactic(auto, unfolding(calls::specs::Reset::byte3))]
     fn byte3(self) -> u8
         ensures { result ≡ byte3 self.state }
     {
-        let state = self.state;
-        let sheet = state.sheet;
+        let sheet = self.state.sheet;
         let idle = !calls::is_started(sheet) & !sheet.waiting;
-        0x80 + seq::flag(idle, 0x40) + seq::flag(state.blocked, 0x20)
+        0x80 + 0x40 * u8::from(idle) + 0x20 * u8::from(self.state.blocked)
     }
 
+    #[tactic(auto, unfolding(calls::specs::Reset::sense_bytes))]
     fn sense_bytes(self) -> [u8; Printer::SENSE_BYTES]
         ensures { result ≡ sense_bytes self.state self.sense }
     {
+        let Sense {
+            b0,
+            b1,
+            b2,
+            b22,
+            b23,
+        } = self.sense;
         let b3 = self.byte3();
-        let sense = self.sense;
         [
-            sense.b0, sense.b1, sense.b2, b3, 0, 0, 0, 0, 0, 0, 0, 0, 0, 0, 0, 0, 0, 0, 0, 0, 0, 0,
-            sense.b22, sense.b23,
+            b0, b1, b2, b3, 0, 0, 0, 0, 0, 0, 0, 0, 0, 0, 0, 0, 0, 0, 0, 0, 0, 0, b22, b23,
         ]
     }
 
     // Accepted, with status 0C alone and the sense left as it is.
+    #[tactic(auto, unfolding(calls::specs::Effects::do_control, numbers::specs::Numbers::row_of))]
     pub fn no_op(mut self) -> Step
         ensures { (m : Stores) → Did self m result m (λ k. do_control k NoOp) }
     {
-        Step {
-            printer: self,
-            answer: Answer::only(Refusal::Accepted, 0x0C),
-        }
+        self.accepted(0x0C)
     }
 
     // Replies the sense, then clears it.
@@ -50,10 +55,8 @@ impl Printer {
         ensures { (m : Stores) → outcome result reply.new m
             ≡ outcome_of self.sense reply.old (do_control (core_of self m) SenseIo) }
     {
-        let bytes = self.sense_bytes();
-        seq::copy_all(&mut reply[0..Printer::SENSE_BYTES], &bytes);
-        let sense = Sense::CLEAR;
-        self.sense = sense;
+        reply[..Printer::SENSE_BYTES].copy_from_slice(&self.sense_bytes());
+        self.sense = Sense::CLEAR;
         self.no_op()
     }
 
@@ -64,11 +67,15 @@ impl Printer {
             ≡ reset (core_of self (stores_of p legends.old tables.old)) }
         ensures sense { result.sense ≡ self.sense }
     {
-        seq::fill(legends, 0);
+        legends.fill(0);
         line::tables::start_tables(tables);
-        let before = self.state;
-        let state = Printer::start_state(before.fixed, before.blocked, before.counters);
-        self.state = state;
+        let State {
+            fixed,
+            blocked,
+            counters,
+            ..
+        } = self.state;
+        self.state = Printer::start_state(fixed, blocked, counters);
         self
     }
 
@@ -78,10 +85,10 @@ impl Printer {
             (stores_of p legends.new tables.new) (λ k. do_control k Initialize) }
     {
         if calls::is_started(self.state.sheet) {
-            return self.complete(true);
+            self.complete(true)
+        } else {
+            self.reset(legends, tables).stand(Causes::NONE)
         }
-        let fresh = self.reset(legends, tables);
-        fresh.stand(Causes::NONE)
     }
 
     pub fn clear(mut self) -> Step
@@ -93,6 +100,7 @@ impl Printer {
         self.complete(false)
     }
 
+    #[tactic(auto, unfolding(calls::specs::Effects::do_control, line::specs::Line::no_causes))]
     pub fn block(mut self) -> Step
         ensures { (m : Stores) → Did self m result m (λ k. do_control k Block) }
     {
@@ -100,6 +108,7 @@ impl Printer {
         self.stand(Causes::NONE)
     }
 
+    #[tactic(auto, unfolding(calls::specs::Effects::do_control, line::specs::Line::no_causes))]
     pub fn allow(mut self) -> Step
         ensures { (m : Stores) → Did self m result m (λ k. do_control k Allow) }
     {
@@ -107,14 +116,11 @@ impl Printer {
         self.stand(Causes::NONE)
     }
 
+    #[tactic(auto, unfolding(calls::specs::Effects::do_control, calls::specs::Effects::slot_selected, line::specs::Line::no_causes))]
     pub fn select(mut self, slot: u8) -> Step
         ensures { (m : Stores) → Did self m result m (λ k. do_control k (Select slot)) }
     {
-        let mut state = self.state;
-        let mut slots = state.slots;
-        slots.selected = slot;
-        state.slots = slots;
-        self.state = state;
+        self.state.slots.selected = slot;
         self.stand(Causes::NONE)
     }
 }

@@ -9,21 +9,17 @@ ghost use Rattle.printer.specs.Worlds.{Did};
 ghost use Rattle.printer.specs.Premises.{LoadsTable, LoadsLegends};
 
 use crate::{Printer, Step};
-use copies::Copies;
 use form::Forms;
 use line::{Causes, Slots};
 
-fn slot_loaded(slots: Slots) -> Slots
+// The slots are taken out, as an index into the printer's own would lay the whole printer into memory.
+#[tactic(auto, unfolding(calls::specs::Effects::slot_loaded))]
+fn slot_loaded(mut slots: Slots) -> Slots
     requires { slots.selected ≤ 3 }
     ensures { result ≡ slot_loaded slots }
 {
-    let mut loaded = slots.loaded;
-    let at = seq::wide(slots.selected);
-    loaded[at] = true;
-    Slots {
-        loaded: loaded,
-        selected: slots.selected,
-    }
+    slots.loaded[usize::from(slots.selected)] = true;
+    slots
 }
 
 impl Printer {
@@ -31,32 +27,22 @@ impl Printer {
         requires { length sent.now ≤ fcb_size }
         ensures { (m : Stores) → Did self m result m (λ k. do_load k Fcb sent.now) }
     {
-        let mut fcb = [0u8; Forms::FCB_BYTES];
-        seq::lay_padded(&mut fcb, sent);
-        let mut state = self.state;
-        let mut sheet = state.sheet;
-        sheet.line = 1;
-        state.sheet = sheet;
-        let forms = Forms {
-            fcb: fcb,
+        self.state.forms = Forms {
+            fcb: seq::padded(sent),
             count: sent.len() as u8,
         };
-        state.forms = forms;
-        self.state = state;
+        self.state.sheet.line = 1;
         self.stand(Causes::NONE)
     }
 
+    #[tactic(auto, unfolding(calls::specs::Effects::do_load, calls::specs::Effects::loaded, calls::specs::Effects::load_causes, line::specs::Line::no_causes))]
     pub fn load_table(mut self, sent: &[u8], tables: &mut [u8]) -> Step
         requires { LoadsTable self.state sent.now tables.old }
         ensures { (p l : List ℕ) → Did self (stores_of p l tables.old) result (stores_of p l tables.new)
             (λ k. do_load k TranslateTable sent.now) }
     {
-        let mut state = self.state;
-        let before = state.slots;
-        line::tables::load_slot(tables, before.selected, sent);
-        let slots = slot_loaded(before);
-        state.slots = slots;
-        self.state = state;
+        line::tables::load_slot(tables, self.state.slots.selected, sent);
+        self.state.slots = slot_loaded(self.state.slots);
         self.stand(Causes::NONE)
     }
 
@@ -66,18 +52,12 @@ impl Printer {
         ensures { (p : List ℕ) → Did self (stores_of p legends.old tables.now) result
             (stores_of p legends.new tables.now) (λ k. do_load k CopyModification sent.now) }
     {
-        let state = self.state;
-        let fixed = state.fixed;
-        let pitches = fixed.pitches;
-        let slots = state.slots;
-        let loaded = line::tables::is_loaded(slots);
+        let slots = self.state.slots;
         let table = line::tables::serving(slots, tables);
-        let found = legends::store_legends(legends, sent, pitches, table);
         let causes = Causes {
-            unprintables: found,
-            unloaded: !loaded,
-            unmatched: false,
-            collision: false,
+            unprintables: legends::store_legends(legends, sent, self.state.fixed.pitches, table),
+            unloaded: !line::tables::is_loaded(slots),
+            ..Causes::NONE
         };
         self.stand(causes)
     }
@@ -86,14 +66,8 @@ impl Printer {
         requires { length sent.now ≤ pair_size }
         ensures { (m : Stores) → Did self m result m (λ k. do_load k OverlaySequence sent.now) }
     {
-        let mut pairs = [0u8; Copies::PAIR_BYTES];
-        seq::lay_padded(&mut pairs, sent);
-        let mut state = self.state;
-        let mut copies = state.copies;
-        copies.pairs = pairs;
-        copies.count = sent.len() as u8;
-        state.copies = copies;
-        self.state = state;
+        self.state.copies.pairs = seq::padded(sent);
+        self.state.copies.count = sent.len() as u8;
         self.stand(Causes::NONE)
     }
 
@@ -101,11 +75,7 @@ impl Printer {
         requires { 1 ≤ length sent.now }
         ensures { (m : Stores) → Did self m result m (λ k. do_load k CopyNumber sent.now) }
     {
-        let mut state = self.state;
-        let mut copies = state.copies;
-        copies.reference = sent[0];
-        state.copies = copies;
-        self.state = state;
+        self.state.copies.reference = sent[0];
         self.stand(Causes::NONE)
     }
 }

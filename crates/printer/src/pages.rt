@@ -6,13 +6,14 @@ ghost use Rattle.calls.specs.Calls.{do_compose, do_release, do_tally, outcome_of
 ghost use Rattle.printer.specs.Worlds.{core_of, outcome, Did};
 ghost use Rattle.printer.specs.Premises.{Composes, Releases};
 
-use crate::{Printer, Step, moves};
+use crate::{Printer, Step, starting};
 use counters::{Tally, lending};
 use form::Layout;
 use numbers::{Answer, Refusal};
 
 impl Printer {
     // The overlay mark of a copy.
+    #[tactic(auto, unfolding(copies::specs::Copies::copy_mark))]
     fn mark_of(self, copy: u16) -> u8
         ensures { result ≡ copy_mark self.state.copies copy }
     {
@@ -39,54 +40,35 @@ impl Printer {
         Step {
             printer: self,
             answer: Answer {
-                refusal: Refusal::Accepted,
-                status: 0,
-                ready: false,
-                lines: 0,
                 copy: number,
-                mark: mark,
-                first: 0,
-                count: 0,
+                mark,
+                ..Answer::only(Refusal::Accepted, 0)
             },
         }
     }
 
-    // The page is counted, and empty again; a reset that was due is done.
+    // The page is counted, and empty again; a reset that was due is done. Both ways meet, so that one FCB is on the stack (T-06).
     pub fn release(mut self, page: &mut [u8], legends: &mut [u8], tables: &mut [u8]) -> Step
         requires { Releases self.state page.old legends.old tables.old }
         ensures { Did self (stores_of page.old legends.old tables.old) result
             (stores_of page.new legends.new tables.new) do_release }
     {
-        let mut state = self.state;
-        let sheet = state.sheet;
-        seq::fill(page, 0);
-        let blank = moves::blank_sheet(sheet.line);
-        state.sheet = blank;
-        let before = state.counters;
-        let counters = before.counted();
-        state.counters = counters;
-        self.state = state;
+        let sheet = self.state.sheet;
+        page.fill(0);
+        self.state.sheet = starting::blank_sheet(sheet.line);
+        self.state.counters = self.state.counters.counted();
         if sheet.due {
-            let fresh = self.reset(legends, tables);
-            self = fresh;
+            self = self.reset(legends, tables);
         }
-        Step {
-            printer: self,
-            answer: Answer::only(Refusal::Accepted, 0),
-        }
+        self.accepted(0)
     }
 
     // A report, a cancel or a restart changes the counters alone.
+    #[tactic(auto, unfolding(calls::specs::Calls::tallying, calls::specs::Calls::do_tally))]
     pub fn tally(mut self, tally: Tally) -> Step
         ensures { (m : Stores) → Did self m result m (λ k. do_tally k tally) }
     {
-        let mut state = self.state;
-        let counters = lending::tally(state.counters, tally);
-        state.counters = counters;
-        self.state = state;
-        Step {
-            printer: self,
-            answer: Answer::only(Refusal::Accepted, 0),
-        }
+        self.state.counters = lending::tally(self.state.counters, tally);
+        self.accepted(0)
     }
 }

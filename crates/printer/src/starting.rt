@@ -1,22 +1,35 @@
 // What Start and a reset leave, and no printer.
-ghost use Rattle.std.specs.Prelude.{◌≡◌, true, [], ◌∷◌};
+ghost use Rattle.std.specs.Prelude.{◌≡◌, true, []};
 ghost use Rattle.seq.specs.Words.{listed};
 ghost use Rattle.numbers.specs.declared.Refusal.TheVariants.{Accepted};
 ghost use Rattle.numbers.specs.Numbers.{only};
 ghost use Rattle.form.specs.Form.{form_lengths, start_fcb, forms_of};
 ghost use Rattle.calls.specs.Core.{stores_of};
-ghost use Rattle.calls.specs.Reset.{reset_state};
-ghost use Rattle.calls.specs.Start.{asked, start_world};
+ghost use Rattle.calls.specs.Reset.{blank_sheet, reset_state};
+ghost use Rattle.calls.specs.Start.{start_world};
 ghost use Rattle.calls.specs.Premises.{Startable};
 ghost use Rattle.printer.specs.Worlds.{outcome};
 
 use crate::{Printer, Step};
-use calls::{Fixed, Sheet, State};
+use calls::{Asked, Fixed, Sheet, State};
 use copies::Copies;
 use counters::Counters;
 use form::Forms;
 use line::Slots;
-use numbers::{Answer, Refusal, Sense};
+use numbers::Sense;
+
+// A sheet with nothing written and nothing waiting.
+#[tactic(auto, unfolding(calls::specs::Reset::blank_sheet))]
+pub(crate) fn blank_sheet(line: u8) -> Sheet
+    ensures { result ≡ blank_sheet line }
+{
+    Sheet {
+        line,
+        written: false,
+        waiting: false,
+        due: false,
+    }
+}
 
 impl Printer {
     // What a refused Start hands back: all zeros, which no other call takes.
@@ -57,34 +70,28 @@ impl Printer {
         requires { listed form_lengths length ≡ true }
         ensures { result ≡ forms_of (start_fcb length) }
     {
-        let mut fcb = [0u8; Forms::FCB_BYTES];
+        let mut fcb = [0; Forms::FCB_BYTES];
         fcb[3] = 1;
         Forms {
-            fcb: fcb,
+            fcb,
             count: (length / 4) as u8,
         }
     }
 
     // The starting state on a listed form, which a reset puts back; the check switch and the counters stay.
+    #[tactic(auto, unfolding(calls::specs::Reset::reset_state, line::specs::Line::start_slots, copies::specs::Copies::start_copies, seq::specs::Words::padded))]
     pub(crate) fn start_state(fixed: Fixed, blocked: bool, counters: Counters) -> State
         requires { listed form_lengths fixed.length ≡ true }
         ensures { result ≡ reset_state fixed (record { blocked = blocked; counters = counters }) }
     {
-        let length = fixed.length;
-        let forms = Printer::start_fcb(length);
         State {
-            fixed: fixed,
-            blocked: blocked,
-            forms: forms,
+            fixed,
+            blocked,
+            forms: Printer::start_fcb(fixed.length),
             slots: Slots::START,
             copies: Copies::START,
-            sheet: Sheet {
-                line: 1,
-                written: false,
-                waiting: false,
-                due: false,
-            },
-            counters: counters,
+            sheet: blank_sheet(1),
+            counters,
         }
     }
 
@@ -92,35 +99,26 @@ impl Printer {
     // printer there was.
     pub fn start(
         mut self,
-        form: u32,
-        p0: u32,
-        p1: u32,
-        p2: u32,
-        p3: u32,
-        skip: u32,
+        asked: Asked,
         page: &mut [u8],
         legends: &mut [u8],
         tables: &mut [u8],
     ) -> Step
-        requires { Startable (asked form (p0 ∷ p1 ∷ p2 ∷ p3 ∷ []) skip) (stores_of page.old legends.old tables.old) }
+        requires { Startable asked (stores_of page.old legends.old tables.old) }
         ensures { outcome result [] (stores_of page.new legends.new tables.new)
-            ≡ record { answer = only Accepted 0; buffer = []; world = start_world (asked form (p0 ∷ p1 ∷ p2 ∷ p3 ∷ []) skip) } }
+            ≡ record { answer = only Accepted 0; buffer = []; world = start_world asked } }
     {
+        let [p0, p1, p2, p3] = asked.pitches;
         let fixed = Fixed {
-            length: form as u16,
+            length: asked.length as u16,
             pitches: [p0 as u8, p1 as u8, p2 as u8, p3 as u8],
-            old: skip == Fixed::OLD_WAY,
+            old: asked.skip == Fixed::OLD_WAY,
         };
-        seq::fill(page, 0);
-        seq::fill(legends, 0);
+        page.fill(0);
+        legends.fill(0);
         line::tables::start_tables(tables);
-        let state = Printer::start_state(fixed, false, Counters::START);
-        let sense = Sense::CLEAR;
-        self.state = state;
-        self.sense = sense;
-        Step {
-            printer: self,
-            answer: Answer::only(Refusal::Accepted, 0),
-        }
+        self.state = Printer::start_state(fixed, false, Counters::START);
+        self.sense = Sense::CLEAR;
+        self.accepted(0)
     }
 }

@@ -1,1 +1,1 @@
-pub mod Kind
+pub mod Verdict

@@ -3,8 +3,7 @@ ghost use Rattle.std.specs.Prelude.{◌≡◌, cond, leb};
 ghost use Rattle.numbers.specs.Sizes.{legend_size};
 ghost use Rattle.movement.specs.declared.Motion.TheVariants.{Skip};
 ghost use Rattle.calls.specs.declared.Command.TheVariants.{Write, Move, Unlisted};
-ghost use Rattle.calls.specs.Commands.{nnnn, skips, decode};
-ghost use Rattle.refusals.specs.Kind.{KindOf};
+ghost use Rattle.calls.specs.Commands.{nnnn, skips, decode, traits_of, is_unlisted, is_load};
 
 use calls::{Command, Control, Load};
 use movement::Motion;
@@ -14,8 +13,7 @@ use numbers::Stores;
 fn is_skip(byte: u8, low: u8) -> bool
     ensures { result ≡ skips byte low }
 {
-    let n = byte / 8 % 16;
-    (byte / 128 == 1) & (byte % 8 == low) & (1 <= n) & (n <= 12)
+    (byte / 128 == 1) & (byte % 8 == low) & (1..=12).contains(&(byte / 8 % 16))
 }
 
 // What a byte that is not listed by itself is: a skip, or no command.
@@ -24,15 +22,16 @@ fn skip_of(byte: u8) -> Command
 {
     let channel = byte / 8 % 16;
     if is_skip(byte, 1) {
-        return Command::Write(Motion::Skip(channel));
+        Command::Write(Motion::Skip(channel))
+    } else if is_skip(byte, 3) {
+        Command::Move(Motion::Skip(channel))
+    } else {
+        Command::Unlisted
     }
-    if is_skip(byte, 3) {
-        return Command::Move(Motion::Skip(channel));
-    }
-    Command::Unlisted
 }
 
 // No byte that is listed by itself is a skip, so those bytes come first: one jump on the byte.
+#[tactic(auto, unfolding(calls::specs::Commands::codes, calls::specs::Commands::look_up, calls::specs::Commands::decode))]
 pub fn decode(byte: u8) -> Command
     ensures { result ≡ decode byte }
 {
@@ -63,70 +62,31 @@ pub fn decode(byte: u8) -> Command
     }
 }
 
-// What the refusals ask of a command: whether it is quiet, replies, is a load, is not listed.
-#[derive(Clone, Copy)]
-pub(crate) struct Kind {
-    pub quiet: bool,
-    pub replies: bool,
-    pub load: bool,
-    pub unlisted: bool,
-}
-
-impl Kind {
-    const PLAIN: Kind = Kind {
-        quiet: false,
-        replies: false,
-        load: false,
-        unlisted: false,
-    };
-
-    const QUIET: Kind = Kind {
-        quiet: true,
-        replies: false,
-        load: false,
-        unlisted: false,
-    };
-
-    const REPLYING: Kind = Kind {
-        quiet: true,
-        replies: true,
-        load: false,
-        unlisted: false,
-    };
-
-    const LOAD: Kind = Kind {
-        quiet: false,
-        replies: false,
-        load: true,
-        unlisted: false,
-    };
-
-    const UNLISTED: Kind = Kind {
-        quiet: false,
-        replies: false,
-        load: false,
-        unlisted: true,
-    };
-}
-
-pub(crate) fn kind_of(command: Command) -> Kind
-    ensures { KindOf command result }
+// What the refusals ask of a command: whether it is not listed, is quiet, replies, is a load.
+#[tactic(auto, unfolding(calls::specs::Commands::traits_of, calls::specs::Commands::control_traits))]
+pub(crate) fn is_quiet(command: Command) -> bool
+    ensures { result ≡ (traits_of command).quiet }
 {
-    match command {
-        Command::Write(motion) => Kind::PLAIN,
-        Command::Move(motion) => Kind::PLAIN,
-        Command::Controls(control) => match control {
-            Control::NoOp => Kind::QUIET,
-            Control::SenseIo => Kind::REPLYING,
-            Control::Initialize => Kind::PLAIN,
-            Control::Clear => Kind::PLAIN,
-            Control::Block => Kind::PLAIN,
-            Control::Allow => Kind::PLAIN,
-            Control::Select(slot) => Kind::PLAIN,
-        },
-        Command::Loads(load) => Kind::LOAD,
-        Command::Unlisted => Kind::UNLISTED,
-    }
+    matches!(command, Command::Controls(Control::NoOp | Control::SenseIo))
+}
+
+#[tactic(auto, unfolding(calls::specs::Commands::traits_of, calls::specs::Commands::control_traits))]
+pub(crate) fn replies(command: Command) -> bool
+    ensures { result ≡ (traits_of command).replies }
+{
+    matches!(command, Command::Controls(Control::SenseIo))
+}
+
+pub(crate) fn is_load(command: Command) -> bool
+    ensures { result ≡ is_load command }
+{
+    matches!(command, Command::Loads(load))
+}
+
+pub(crate) fn is_unlisted(command: Command) -> bool
+    ensures { result ≡ is_unlisted command }
+{
+    matches!(command, Command::Unlisted)
 }
 
 // The byte count that a load check can show. A longer record is refused before its load checks it.
@@ -134,7 +94,8 @@ pub fn shown_count(n: usize) -> u16
     ensures { result ≡ cond (leb n legend_size) n 0 }
 {
     if n <= Stores::LEGEND_BYTES {
-        return n as u16;
+        n as u16
+    } else {
+        0
     }
-    0
 }

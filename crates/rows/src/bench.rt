@@ -1,203 +1,128 @@
 // The calls that a script's lines stand for, made on the lent stores.
-ghost use Rattle.std.specs.Prelude.{◌<◌};
-
-use script::stores::{Legends, Lent, Page, State, Tables, double, part, quadruple};
-use script::words::Given;
-use script::{show, stores, words};
+use script::show::{Answer, Change, Feet, Written};
+use script::stores::{BUFFER_ROOM, Host, Lent, UNWRITTEN};
+use script::words::{Call, GIVEN_ROOM, Line};
 use std::io;
 
-// What follows the first of n bytes.
-fn record_of(given: &[u8], n: usize) -> &[u8] {
-    let all = seq::front(given, n);
-    if all.len() == 0 {
-        return all;
+// Why a run ends before its script does.
+#[derive(Debug, Drop)]
+pub enum Stop {
+    NotRead,
+    NotPrinted(io::Error),
+}
+
+impl From<io::Error> for Stop {
+    fn from(error: io::Error) -> Stop {
+        Stop::NotPrinted(error)
     }
-    &all[1..]
 }
 
-// What a Start line has after the form length: four pitches, and the way of skipping.
-fn after_form(given: &Given, which: usize) -> u32
-    requires { which < 5 }
-{
-    let at = which + 2;
-    seq::wide(given[at]) as u32
+// A host's stores, and how much of them the next call is lent.
+#[derive(Drop)]
+pub struct Bench {
+    host: Host,
+    lent: Lent,
 }
 
-fn start(
-    given: &Given,
-    state: &mut [u8],
-    page: &mut [u8],
-    legends: &mut [u8],
-    tables: &mut [u8],
-) -> u64 {
-    trestlepip::trestlepip_start(
-        double(given, 0) as u32,
-        after_form(given, 0),
-        after_form(given, 1),
-        after_form(given, 2),
-        after_form(given, 3),
-        after_form(given, 4),
-        state,
-        page,
-        legends,
-        tables,
-    )
-}
-
-fn feet(given: &Given, feet: &mut f64) -> u64 {
-    trestlepip::trestlepip_feet(
-        double(given, 0) as u16,
-        double(given, 2) as u16,
-        quadruple(given, 4),
-        quadruple(given, 8),
-        feet,
-    )
-}
-
+// The call, on what is lent: parts of a local, as parts of a struct that is lent get no proof.
 fn make(
-    letter: u8,
-    given: &Given,
-    n: usize,
-    paper: &mut f64,
-    buffer: &mut [u8],
+    call: Call<'_>,
     state: &mut [u8],
     page: &mut [u8],
     legends: &mut [u8],
     tables: &mut [u8],
+    buffer: &mut [u8],
+    paper: &mut f64,
 ) -> u64 {
-    match letter {
-        b'S' => start(given, state, page, legends, tables),
-        b'C' => trestlepip::trestlepip_compose(
-            double(given, 0) as u32,
-            buffer,
+    match call {
+        Call::Start {
+            form,
+            pitches,
+            skip,
+        } => trestlepip::trestlepip_start(
+            u32::from(form),
+            u32::from(pitches[0]),
+            u32::from(pitches[1]),
+            u32::from(pitches[2]),
+            u32::from(pitches[3]),
+            u32::from(skip),
             state,
             page,
             legends,
             tables,
         ),
-        b'R' => trestlepip::trestlepip_release(state, page, legends, tables),
-        b'T' => trestlepip::trestlepip_transferred(state, page, legends, tables),
-        b'U' => trestlepip::trestlepip_fused(state, page, legends, tables),
-        b'K' => trestlepip::trestlepip_stacked(state, page, legends, tables),
-        b'X' => trestlepip::trestlepip_cancel(state, page, legends, tables),
-        b'N' => trestlepip::trestlepip_restart(state, page, legends, tables),
-        b'F' => feet(given, paper),
-        _ => trestlepip::trestlepip_command(
-            given[0],
-            record_of(given, n),
-            buffer,
-            state,
-            page,
-            legends,
-            tables,
-        ),
-    }
-}
-
-// The call, with as much of each store as is to be lent.
-fn lend(
-    letter: u8,
-    given: &Given,
-    n: usize,
-    lent: &Lent,
-    paper: &mut f64,
-    buffer: &mut [u8],
-    state: &mut [u8],
-    page: &mut [u8],
-    legends: &mut [u8],
-    tables: &mut [u8],
-) -> u64 {
-    make(
-        letter,
-        given,
-        n,
-        paper,
-        part(buffer, lent, 4),
-        part(state, lent, 0),
-        part(page, lent, 1),
-        part(legends, lent, 2),
-        part(tables, lent, 3),
-    )
-}
-
-// A call, and its figures.
-fn tell(
-    rt: &impl Print,
-    letter: u8,
-    given: &Given,
-    n: usize,
-    lent: &Lent,
-    state: &mut State,
-    page: &mut Page,
-    legends: &mut Legends,
-    tables: &mut Tables,
-) -> io::Result<()> {
-    let was_state = *state;
-    let was_page = *page;
-    let was_legends = *legends;
-    let was_tables = *tables;
-    let mut paper = 1.0;
-    let mut buffer = [stores::UNWRITTEN; stores::BUFFER_ROOM];
-    let answer = lend(
-        letter,
-        given,
-        n,
-        lent,
-        &mut paper,
-        &mut buffer,
-        state,
-        page,
-        legends,
-        tables,
-    );
-    show::answer(rt, answer)?;
-    show::state(rt, state, page)?;
-    stores::changed(
-        rt,
-        state,
-        &was_state,
-        page,
-        &was_page,
-        legends,
-        &was_legends,
-        tables,
-        &was_tables,
-    )?;
-    stores::written(rt, answer, letter, given[0], &buffer, page)?;
-    if letter == b'F' {
-        show::feet(rt, paper)?;
-    }
-    Ok(())
-}
-
-// One line of the script, and whether it could be read.
-pub fn obey(
-    rt: &impl Print,
-    line: &[u8],
-    lent: &mut Lent,
-    state: &mut State,
-    page: &mut Page,
-    legends: &mut Legends,
-    tables: &mut Tables,
-) -> io::Result<bool> {
-    show::text(rt, line)?;
-    let letter = words::letter(line);
-    let mut given = [0u8; words::GIVEN_ROOM];
-    let n = words::bytes(line, letter, &mut given);
-    if !words::meant(letter, n) {
-        return Ok(false);
-    }
-    match letter {
-        b'#' => Ok(true),
-        b'P' => Ok(stores::poke(state, seq::wide(given[0]), given[1])),
-        b'G' => Ok(stores::poke(legends, double(&given, 0), given[2])),
-        b'M' => Ok(stores::poke(page, double(&given, 0), given[2])),
-        b'L' => Ok(stores::resize(&given, lent)),
-        b'B' => Ok(stores::resize_buffer(&given, lent)),
-        _ => {
-            tell(rt, letter, &given, n, lent, state, page, legends, tables)?;
-            *lent = stores::USUAL;
-            Ok(true)
+        Call::Compose { copy } => {
+            trestlepip::trestlepip_compose(u32::from(copy), buffer, state, page, legends, tables)
         }
+        Call::Release => trestlepip::trestlepip_release(state, page, legends, tables),
+        Call::Transferred => trestlepip::trestlepip_transferred(state, page, legends, tables),
+        Call::Fused => trestlepip::trestlepip_fused(state, page, legends, tables),
+        Call::Stacked => trestlepip::trestlepip_stacked(state, page, legends, tables),
+        Call::Cancel => trestlepip::trestlepip_cancel(state, page, legends, tables),
+        Call::Restart => trestlepip::trestlepip_restart(state, page, legends, tables),
+        Call::Feet {
+            initial,
+            last,
+            copies,
+            form,
+        } => trestlepip::trestlepip_feet(initial, last, copies, form, paper),
+        Call::Command { byte, record } => {
+            trestlepip::trestlepip_command(byte, record, buffer, state, page, legends, tables)
+        }
+    }
+}
+
+impl Bench {
+    pub fn new() -> Bench {
+        Bench {
+            host: Host::new(),
+            lent: Lent::USUAL,
+        }
+    }
+
+    // One line of the script.
+    pub fn obey(&mut self, rt: &impl Print, line: &[u8]) -> Result<(), Stop> {
+        let mut room = [0; GIVEN_ROOM];
+        match Line::read(line, &mut room).ok_or(Stop::NotRead)? {
+            Line::Comment => {}
+            Line::Poke(poke) => self.host.poke(poke).ok_or(Stop::NotRead)?,
+            Line::Sizes(sizes) => self.lent = self.lent.resized(sizes).ok_or(Stop::NotRead)?,
+            Line::BufferSize(size) => {
+                self.lent = self.lent.with_buffer(size).ok_or(Stop::NotRead)?;
+            }
+            Line::Call(call) => self.tell(rt, call)?,
+        }
+        Ok(())
+    }
+
+    // A call, with as much of each store as is to be lent, and its figures.
+    fn tell(&mut self, rt: &impl Print, call: Call<'_>) -> io::Result<()> {
+        let lent = self.lent;
+        let mut now = self.host;
+        let mut buffer = [UNWRITTEN; BUFFER_ROOM];
+        let mut paper = 1.0;
+        let answer = Answer(make(
+            call,
+            &mut now.state[..lent.state],
+            &mut now.page[..lent.page],
+            &mut now.legends[..lent.legends],
+            &mut now.tables[..lent.tables],
+            &mut buffer[..lent.buffer],
+            &mut paper,
+        ));
+        let was = &self.host;
+        print!(rt; "{answer}{now}{}", Change { was, now: &now })?;
+        rt.print(Written {
+            call,
+            answer,
+            buffer: &buffer,
+            page: &now.page,
+        })?;
+        if let Call::Feet { .. } = call {
+            rt.print(Feet(paper))?;
+        }
+        self.host = now;
+        self.lent = Lent::USUAL;
+        Ok(())
     }
 }

@@ -5,39 +5,28 @@ ghost use Rattle.std.specs.Prelude.{◌≤◌, length, IfOk};
 
 mod bench;
 
-use script::{show, stores, words};
+use bench::{Bench, Stop};
+use script::words;
 use std::io;
 use std::io::Read;
 
-// Line after line, to the end or to one that cannot be read. The stores begin with bytes that no Start leaves.
+// Line after line, to the end or to one that cannot be read.
 fn run(rt: &impl Print, script: &[u8]) -> io::Result<()> {
-    let mut lent = stores::USUAL;
-    let mut state = [4u8; stores::STATE_ROOM];
-    let mut page = [5u8; stores::PAGE_ROOM];
-    let mut legends = [6u8; stores::LEGEND_ROOM];
-    let mut tables = [7u8; stores::TABLE_ROOM];
-    let mut at = 0;
-    while at < script.len() {
-        let end = words::until(script, at, b'\n');
-        let read = bench::obey(
-            rt,
-            &script[at..end],
-            &mut lent,
-            &mut state,
-            &mut page,
-            &mut legends,
-            &mut tables,
-        )?;
-        if !read {
-            return show::text(rt, b" not read\n");
+    let mut bench = Bench::new();
+    for line in script.split_inclusive(|mark| *mark == b'\n') {
+        let line = words::unmarked(line, b'\n');
+        rt.write_all(line)?;
+        match bench.obey(rt, line) {
+            Ok(()) => rt.println("")?,
+            Err(Stop::NotRead) => return rt.println(" not read"),
+            Err(Stop::NotPrinted(error)) => return Err(error),
         }
-        show::text(rt, b"\n")?;
-        at = words::next(script, at, b'\n');
     }
     Ok(())
 }
 
-// As much of the input as the buffer has room for: how many bytes.
+// As much of the input as the buffer has room for: how many bytes. A loop, since `read_exact` does not tell how many there are of an input that is shorter,
+// and `read_to_end` takes a heap.
 fn read_full(input: &mut impl Read, buffer: &mut [u8]) -> io::Result<usize>
     ensures { IfOk result (λ n. n ≤ length buffer.new) }
 {
@@ -56,8 +45,8 @@ fn read_full(input: &mut impl Read, buffer: &mut [u8]) -> io::Result<usize>
 fn main(rt: HostRuntime) -> io::Result<()> {
     let mut script = [0u8; 65536];
     let n = read_full(&mut rt.stdin(), &mut script)?;
-    if n == 65536 {
-        return show::text(&rt, b"The script is longer than 65535 bytes.\n");
+    if n == script.len() {
+        return rt.println("The script is longer than 65535 bytes.");
     }
     run(&rt, &script[..n])
 }

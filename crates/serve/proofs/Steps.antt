@@ -6,6 +6,7 @@ use mathlib.Core.Bool.{Bool, true, false, cond, ◌&&◌}
 use mathlib.Core.List.{List, []}
 use lib.Dec.{eqb}
 use lib.ListN.{length}
+use Rattle.std.specs.Prelude.{Result, Ok, Err}
 use Rattle.numbers.specs.declared.Answer.{Answer}
 use Rattle.numbers.specs.declared.Refusal.{Refusal}
 use Rattle.numbers.specs.declared.Refusal.TheVariants.{BadStore}
@@ -15,10 +16,16 @@ use Rattle.calls.specs.Core.{Stores, World, laid_out}
 use Rattle.calls.specs.Contents.{core_ok}
 use Rattle.calls.specs.Effects.{Effect, refused}
 use Rattle.calls.specs.Calls.{Call, refusal_of, perform, size_of, lent, Outcome, outcome_of, step}
-use Rattle.calls.specs.Start.{Asked, start_outcome}
+use Rattle.calls.specs.Start.{start_outcome}
+use Rattle.calls.specs.declared.Asked.{Asked}
 use Rattle.calls.proofs.Refused.{refused-effect, accepted-effect, nine}
+use Rattle.refusals.specs.Verdict.{verdict}
+use Rattle.refusals.proofs.Laws.{accepts, refuses}
+use Rattle.printer.specs.declared.Printer.{Printer}
+use Rattle.printer.specs.declared.Step.{Step}
 use Rattle.printer.specs.Layout.{reference_at, state_size}
-use Rattle.state.specs.State.{state_at, core_at, world_at, Bytes, readable}
+use Rattle.printer.specs.Worlds.{core_of, outcome}
+use Rattle.state.specs.State.{state_at, core_at, world_at, printer_at, Bytes, readable}
 use Rattle.state.specs.Contents.{sound_bytes}
 use Rattle.state.specs.Packed.{packed}
 use Rattle.state.specs.Host.{Called, called, left, shown, unread, call_bytes, start_bytes}
@@ -27,16 +34,27 @@ use Rattle.state.proofs.Fitting.{step_fits, start_fits}
 use Rattle.state.proofs.Round.{back}
 use Rattle.state.proofs.Sound.{sound-read, sound-size}
 use Rattle.serve.specs.Served.{Judged}
+use Rattle.serve.proofs.Put.{left_alone}
 
-module _ (w : World) (c : Call) {x : Refusal} {o : Outcome} (given : x ≡ refusal_of w.core c) where
-  pub step-accepted : is_accepted x ≡ true → o ≡ outcome_of w.sense (lent c) (perform w.core c) → o ≡ step w c
+module _ (w : World) (c : Call) {v : Result Unit Refusal} (given : v ≡ verdict (refusal_of w.core c)) {o : Outcome} where
+  pub step-accepted : v ≡ Ok tt → o ≡ outcome_of w.sense (lent c) (perform w.core c) → o ≡ step w c
   unfolding step
-  step-accepted e h = h ∙ ap (λ (f : Effect). outcome_of w.sense (lent c) f) (sym (accepted-effect w.core c (ap is_accepted (sym given) ∙ e)))
+  step-accepted e h = h ∙ ap (λ (f : Effect). outcome_of w.sense (lent c) f) (sym (accepted-effect w.core c (accepts _ given e)))
 
   -- n is the count that the code takes for the record's: it need not be that where the row does not show it
-  pub step-refused : (n : ℕ) → is_accepted x ≡ false → row_of n x ≡ row_of (size_of c) x → o ≡ outcome_of w.sense (lent c) (refused w.core n x) → o ≡ step w c
+  pub step-refused : {x : Refusal} (n : ℕ) → v ≡ Err x → row_of n x ≡ row_of (size_of c) x → o ≡ outcome_of w.sense (lent c) (refused w.core n x) → o ≡ step w c
   unfolding step refused
-  step-refused n e r h = rw (refused-effect w.core c (ap is_accepted (sym given) ∙ e), ← given) (rw (← r) h)
+  step-refused n e r h = let y = refuses given e in rw (refused-effect w.core c y.1, y.0) (rw (← r) h)
+
+-- A refusal that keeps the sense: nothing is put back.
+pub step-left : {s : List ℕ} {p : Printer} (d : p ≡ printer_at s) (m : Stores) (c : Call) {v : Result Unit Refusal} {x : Refusal} {r : Step}
+    → v ≡ verdict (refusal_of (core_at s m) c) → v ≡ Err x → row_of 0 x ≡ row_of (size_of c) x
+    → outcome r (lent c) m ≡ outcome_of p.sense (lent c) (refused (core_of p m) 0 x) → Bytes s → readable s ≡ true
+    → (is_accepted (refusal_of (core_at s m) c) ≡ false → (step (world_at s m) c).world ≡ world_at s m)
+    → left r.answer (lent c) s m ≡ shown (step (world_at s m) c)
+step-left {s} d m c {x = x} given e row h low read keeps =
+    let o = step-refused (world_at s m) c given 0 e row refl in
+    left_alone s d (lent c) m (λ k. refused k 0 x) h low read (ap (λ (z : Outcome). z.world) o ∙ keeps (refuses given e).1) refl ∙ ap shown o
 
 module _ (s : List ℕ) (m : Stores) (c : Call) where
   nine-read : (t : Bool) → Bytes s → readable s ≡ t → (t && core_ok (core_at s m)) ≡ false

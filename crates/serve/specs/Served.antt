@@ -1,9 +1,9 @@
 -- What the functions here ask of the state's bytes, and what they did over them.
 use Rattle.std.specs.Prelude.{ℕ, ◌≤◌, ◌≡◌, true, false, ◌&&◌, List, length, ltb}
+use Rattle.std.specs.Prelude.{Ok}
 use Rattle.seq.specs.Words.{first_or}
 use Rattle.numbers.specs.Sizes.{legend_size, table_size, sense_size}
 use Rattle.numbers.specs.declared.Answer.{Answer}
-use Rattle.numbers.specs.declared.Checked.TheVariants.{Sound}
 use Rattle.numbers.specs.declared.Refusal.TheVariants.{Accepted}
 use Rattle.form.specs.declared.Layout.{Layout}
 use Rattle.calls.specs.declared.Command.{Command}
@@ -46,7 +46,7 @@ pub record AsksLoad (s : List ℕ) (load : Load) (sent l t : List ℕ) : Type 0 
   pub bytes : Readable s
   pub fixed : FixedGood (state_at s).fixed
   pub slot : (state_at s).slots.selected ≤ 3
-  pub check : load_check (state_at s) load sent ≡ Sound
+  pub check : load_check (state_at s) load sent ≡ Ok tt
   pub short : length sent ≤ legend_size
   pub legends : length l ≡ legend_size
   pub tables : length t ≡ table_size

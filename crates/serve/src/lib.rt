@@ -2,35 +2,34 @@
 // printer is decoded and put back in the arm of each command, and nowhere before: so the compiler leaves out what the command does not use.
 #![tactic(auto)]
 
-ghost use Rattle.std.specs.Prelude.{◌≡◌, true, List, [], ◌∷◌, ℕ, length};
+ghost use Rattle.std.specs.Prelude.{◌≡◌, true, List, [], ◌∷◌, ℕ};
 ghost use Rattle.paper.specs.Feet.{sent};
 ghost use Rattle.calls.specs.Core.{Stores, stores_of};
 ghost use Rattle.calls.specs.Commands.{issued};
 ghost use Rattle.calls.specs.Contents.{core_ok};
 ghost use Rattle.calls.specs.Effects.{refused, do_move, do_write, do_load, do_control, do_command};
 ghost use Rattle.calls.specs.Calls.{command, compose, release, tally, step};
-ghost use Rattle.calls.specs.Start.{asked, start_outcome};
-ghost use Rattle.printer.specs.Layout.{state_size};
+ghost use Rattle.calls.specs.Start.{start_outcome};
 ghost use Rattle.printer.specs.Premises.{Fit, Writes};
 ghost use Rattle.state.specs.State.{state_at, core_at, world_at};
 ghost use Rattle.state.specs.Host.{called, left, shown, call_bytes, start_bytes, told, feet_told};
 ghost use Rattle.serve.specs.Served.{Readable, Judged, Accepts, Asks, AsksLoad, AsksControl, Served};
 
-use calls::{Command, Control, Load};
+use calls::{Asked, Command, Control, Load};
 use counters::Tally;
 use form::Layout;
 use movement::Motion;
 use numbers::{Answer, Refusal};
 use printer::Printer;
 use refusals::{commands, order};
-use state::{answer, codec, judge};
+use state::{Bytes, answer, codec, judge};
 
 // Write, then space or skip.
 fn write(
     form: Layout,
     motion: Motion,
     sent: &[u8],
-    state: &mut [u8],
+    state: &mut Bytes,
     page: &mut [u8],
     tables: &[u8],
 ) -> Answer
@@ -46,7 +45,7 @@ fn write(
 }
 
 // The immediate commands.
-fn move_on(form: Layout, motion: Motion, state: &mut [u8]) -> Answer
+fn move_on(form: Layout, motion: Motion, state: &mut Bytes) -> Answer
     requires { Asks state.old (Fit (state_at state.old) form) }
     ensures { (b : List ℕ) (m : Stores) → Served (λ k. do_move k motion) state.old m b result state.new m b }
 {
@@ -54,7 +53,7 @@ fn move_on(form: Layout, motion: Motion, state: &mut [u8]) -> Answer
 }
 
 // The five loads.
-fn load(load: Load, sent: &[u8], state: &mut [u8], legends: &mut [u8], tables: &mut [u8]) -> Answer
+fn load(load: Load, sent: &[u8], state: &mut Bytes, legends: &mut [u8], tables: &mut [u8]) -> Answer
     requires { AsksLoad state.old load sent.now legends.old tables.old }
     ensures { (b p : List ℕ) → Served (λ k. do_load k load sent.now)
         state.old (stores_of p legends.old tables.old) b result
@@ -81,7 +80,7 @@ fn load(load: Load, sent: &[u8], state: &mut [u8], legends: &mut [u8], tables: &
 fn control(
     control: Control,
     reply: &mut [u8],
-    state: &mut [u8],
+    state: &mut Bytes,
     legends: &mut [u8],
     tables: &mut [u8],
 ) -> Answer
@@ -91,10 +90,7 @@ fn control(
         state.new (stores_of p legends.new tables.new) reply.new }
 {
     match control {
-        Control::NoOp => {
-            let step = codec::decode(state).no_op();
-            step.answer
-        }
+        Control::NoOp => codec::decode(state).no_op().answer,
         Control::SenseIo => codec::put_sheet(codec::decode(state).sense_io(reply), state),
         Control::Initialize => codec::put_all(
             codec::decode(state).initialize(legends, tables),
@@ -108,7 +104,7 @@ fn control(
 }
 
 // A refused call tells it, and puts back the sense.
-fn refuse(refusal: Refusal, count: u16, state: &mut [u8]) -> Answer
+fn refuse(refusal: Refusal, count: u16, state: &mut Bytes) -> Answer
     requires { Readable state.old }
     ensures { (b : List ℕ) (m : Stores) → Served (λ k. refused k count refusal) state.old m b result state.new m b }
 {
@@ -121,7 +117,7 @@ fn perform(
     command: Command,
     sent: &[u8],
     reply: &mut [u8],
-    state: &mut [u8],
+    state: &mut Bytes,
     page: &mut [u8],
     legends: &mut [u8],
     tables: &mut [u8],
@@ -146,7 +142,7 @@ fn obey(
     byte: u8,
     sent: &[u8],
     reply: &mut [u8],
-    state: &mut [u8],
+    state: &mut Bytes,
     page: &mut [u8],
     legends: &mut [u8],
     tables: &mut [u8],
@@ -159,11 +155,10 @@ fn obey(
     let command = commands::decode(byte);
     let fixed = codec::fixed(state);
     let sheet = codec::sheet(state);
-    let refusal = order::command_refusal(fixed, sheet, command, sent, reply);
-    if refusal.is_accepted() {
-        return perform(form, command, sent, reply, state, page, legends, tables);
+    match order::command_refusal(fixed, sheet, command, sent, reply) {
+        Ok(()) => perform(form, command, sent, reply, state, page, legends, tables),
+        Err(refusal) => refuse(refusal, commands::shown_count(sent.len()), state),
     }
-    refuse(refusal, commands::shown_count(sent.len()), state)
 }
 
 pub fn command(
@@ -179,11 +174,11 @@ pub fn command(
         ≡ call_bytes state.old (stores_of page.old legends.old tables.old)
         (command (issued byte sent.now reply.old)) }
 {
-    let found = judge::judge(state, page, legends, tables);
-    if !found.sound {
+    let Some(form) = judge::judge(state, page, legends, tables) else {
         return answer::unread();
-    }
-    answer::pack(obey(found.form, byte, sent, reply, state, page, legends, tables))
+    };
+    let state = state.as_mut_array().unwrap();
+    answer::pack(obey(form, byte, sent, reply, state, page, legends, tables))
 }
 
 // The copy with this index, from 1, of the page that waits. It changes nothing but the output.
@@ -191,7 +186,7 @@ fn copy_page(
     form: Layout,
     copy: u32,
     out: &mut [u8],
-    state: &[u8],
+    state: &Bytes,
     page: &[u8],
     legends: &[u8],
     tables: &[u8],
@@ -201,13 +196,10 @@ fn copy_page(
         left result out.new state.now m ≡ shown (step (world_at state.now m) (compose copy out.old)) }
 {
     let p = codec::decode(state);
-    let refusal = order::compose_refusal(p.state, form, copy, out);
-    if refusal.is_accepted() {
-        let step = p.compose(form, copy as u16, out, page, legends);
-        return step.answer;
+    match order::compose_refusal(p.state, form, copy, out) {
+        Ok(()) => p.compose(form, copy as u16, out, page, legends).answer,
+        Err(refusal) => p.refuse(refusal, 0).answer,
     }
-    let step = p.refuse(refusal, 0);
-    step.answer
 }
 
 pub fn compose(
@@ -221,17 +213,17 @@ pub fn compose(
     ensures { let m = stores_of page.now legends.now tables.now in
         called result out.new state.now m ≡ call_bytes state.now m (compose copy out.old) }
 {
-    let found = judge::judge(state, page, legends, tables);
-    if !found.sound {
+    let Some(form) = judge::judge(state, page, legends, tables) else {
         return answer::unread();
-    }
-    answer::pack(copy_page(found.form, copy, out, state, page, legends, tables))
+    };
+    let state = state.as_array().unwrap();
+    answer::pack(copy_page(form, copy, out, state, page, legends, tables))
 }
 
 // The page that waits is done with. A refused Release puts nothing back: its refusals keep the sense.
 fn release_page(
     form: Layout,
-    state: &mut [u8],
+    state: &mut Bytes,
     page: &mut [u8],
     legends: &mut [u8],
     tables: &mut [u8],
@@ -241,100 +233,81 @@ fn release_page(
         ≡ shown (step (world_at state.old (stores_of page.old legends.old tables.old)) release) }
 {
     let p = codec::decode(state);
-    let refusal = order::release_refusal(p.state);
-    if refusal.is_accepted() {
-        return codec::put_all(p.release(page, legends, tables), state);
+    match order::release_refusal(p.state) {
+        Ok(()) => codec::put_all(p.release(page, legends, tables), state),
+        Err(refusal) => p.refuse(refusal, 0).answer,
     }
-    let step = p.refuse(refusal, 0);
-    step.answer
 }
 
 pub fn release(state: &mut [u8], page: &mut [u8], legends: &mut [u8], tables: &mut [u8]) -> u64
     ensures { called result [] state.new (stores_of page.new legends.new tables.new)
         ≡ call_bytes state.old (stores_of page.old legends.old tables.old) release }
 {
-    let found = judge::judge(state, page, legends, tables);
-    if !found.sound {
+    let Some(form) = judge::judge(state, page, legends, tables) else {
         return answer::unread();
-    }
-    answer::pack(release_page(found.form, state, page, legends, tables))
+    };
+    let state = state.as_mut_array().unwrap();
+    answer::pack(release_page(form, state, page, legends, tables))
 }
 
 // A report, a cancel or a restart, on bytes that were judged good. A refused one puts nothing back: its refusal keeps the sense.
-fn keep_count(which: Tally, state: &mut [u8]) -> Answer
+fn keep_count(which: Tally, state: &mut Bytes) -> Answer
     requires { Readable state.old }
     ensures { (m : Stores) → core_ok (core_at state.old m) ≡ true
         → left result [] state.new m ≡ shown (step (world_at state.old m) (tally which)) }
 {
     let p = codec::decode(state);
-    let refusal = order::tally_refusal(p.state.counters, which);
-    if refusal.is_accepted() {
-        return codec::put_counters(p.tally(which), state);
+    match order::tally_refusal(p.state.counters, which) {
+        Ok(()) => codec::put_counters(p.tally(which), state),
+        Err(refusal) => p.refuse(refusal, 0).answer,
     }
-    let step = p.refuse(refusal, 0);
-    step.answer
 }
 
 pub fn tally(which: Tally, state: &mut [u8], page: &[u8], legends: &[u8], tables: &[u8]) -> u64
     ensures { let m = stores_of page.now legends.now tables.now in
         called result [] state.new m ≡ call_bytes state.old m (tally which) }
 {
-    let found = judge::judge(state, page, legends, tables);
-    if !found.sound {
+    let Some(_) = judge::judge(state, page, legends, tables) else {
         return answer::unread();
-    }
+    };
+    let state = state.as_mut_array().unwrap();
     answer::pack(keep_count(which, state))
 }
 
 // A Start on a state with room for one.
 fn begin(
-    form: u32,
-    p0: u32,
-    p1: u32,
-    p2: u32,
-    p3: u32,
-    skip: u32,
-    state: &mut [u8],
+    asked: Asked,
+    state: &mut Bytes,
     page: &mut [u8],
     legends: &mut [u8],
     tables: &mut [u8],
 ) -> Answer
-    requires { length state.old ≡ state_size }
     ensures { left result [] state.new (stores_of page.new legends.new tables.new)
-        ≡ shown (start_outcome (asked form (p0 ∷ p1 ∷ p2 ∷ p3 ∷ []) skip)
+        ≡ shown (start_outcome asked
         (stores_of page.old legends.old tables.old)) }
 {
     let sized = judge::sizes_ok(page, legends, tables);
-    let refusal = order::start_refusal(sized, form, p0, p1, p2, p3, skip);
-    if refusal.is_accepted() {
-        return codec::put_all(
-            Printer::NONE.start(form, p0, p1, p2, p3, skip, page, legends, tables),
-            state,
-        );
+    match order::start_refusal(sized, asked) {
+        Ok(()) => codec::put_all(Printer::NONE.start(asked, page, legends, tables), state),
+        Err(refusal) => codec::put_all(Printer::NONE.refuse(refusal, 0), state),
     }
-    codec::put_all(Printer::NONE.refuse(refusal, 0), state)
 }
 
 pub fn start(
-    form: u32,
-    p0: u32,
-    p1: u32,
-    p2: u32,
-    p3: u32,
-    skip: u32,
+    asked: Asked,
     state: &mut [u8],
     page: &mut [u8],
     legends: &mut [u8],
     tables: &mut [u8],
 ) -> u64
     ensures { called result [] state.new (stores_of page.new legends.new tables.new)
-        ≡ start_bytes (asked form (p0 ∷ p1 ∷ p2 ∷ p3 ∷ []) skip) state.old
+        ≡ start_bytes asked state.old
         (stores_of page.old legends.old tables.old) }
 {
-    if state.len() != Printer::STATE_BYTES {
+    let Some(state) = state.as_mut_array() else {
         return answer::unread();
-    }
-    answer::pack(begin(form, p0, p1, p2, p3, skip, state, page, legends, tables))
+    };
+    answer::pack(begin(asked, state, page, legends, tables))
 }
 
 // Feet of paper: no printer is asked.

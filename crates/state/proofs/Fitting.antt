@@ -8,8 +8,8 @@ use lib.ListN.{length}
 use lib.Dec.{eqb, leb, ltb, lit≤}
 use borrow.Author.Tests.{ltb-true, ltb-false}
 use Rattle.seq.specs.Words.{any}
+use Rattle.std.specs.Prelude.{Ok}
 use Rattle.seq.proofs.Laws.{or_left, or_right, bit-most, cond_has, passed}
-use Rattle.numbers.specs.declared.Checked.TheVariants.{Sound}
 use Rattle.numbers.specs.declared.Refusal.TheVariants.{Accepted}
 use Rattle.numbers.specs.Numbers.{row_of, is_accepted}
 use Rattle.numbers.proofs.Laws.{faulty, accepted-is, facts}
@@ -31,7 +31,8 @@ use Rattle.calls.specs.Commands.{Issued}
 use Rattle.calls.specs.Contents.{core_ok}
 use Rattle.calls.specs.Effects.{Effect, refused, done, move_of, at_once}
 use Rattle.calls.specs.Calls.{Call, command, compose, release, tally, movement, refusal_of, copy_at, do_compose, do_release, do_tally, perform, size_of, effect, Outcome, step}
-use Rattle.calls.specs.Start.{Asked, start_refusal, start_outcome}
+use Rattle.calls.specs.Start.{start_refusal, start_outcome}
+use Rattle.calls.specs.declared.Asked.{Asked}
 use Rattle.calls.specs.Premises.{Allowed}
 use Rattle.calls.proofs.Standing.{at-once-has}
 use Rattle.calls.proofs.Good.{good, few-now}
@@ -105,7 +106,7 @@ mark-in k (p ∷ ps) e =
     cond_has (λ (n : ℕ). n ≤ 1) (leb k p.0)
     (λ t. ltb-false 1 p.1 (or_right (eqb p.0 0) _ (or_left (bad_pair p) _ e))) (λ t. mark-in (k - p.0) ps (or_right (bad_pair p) _ e))
 
-mark-most : (c : Copies) (k : ℕ) → sequence_check (sequence_now c) ≡ Sound → copy_mark c k ≤ 1
+mark-most : (c : Copies) (k : ℕ) → sequence_check (sequence_now c) ≡ Ok tt → copy_mark c k ≤ 1
 unfolding copy_mark sequence_check
 mark-most c k e = mark-in k _ (or_left _ _ (passed _ _ faulty (passed _ _ faulty e).1).0)
 

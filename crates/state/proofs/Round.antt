@@ -164,10 +164,7 @@ pub same_bytes : (s t : List ℕ) → Bytes s → Bytes t → readable s ≡ tru
     → sense_at s ≡ sense_at t → s ≡ t
 same_bytes s t h k d e p q = sym (back s h d) ∙ (λ i. bytes_of (p i) (q i)) ∙ back t k e
 
--- A place of a state has as many bytes as what is laid over it; and what comes after bytes that were laid.
-pub place-long : (n a : ℕ) (s x : List ℕ) → length s ≡ state_size → a + n ≤ state_size → length x ≡ n → length (take n (drop a s)) ≡ length x
-place-long n a s x e h k = length-take-le n (drop a s) (simp length-drop (omega arith)) ∙ sym k
-
+-- What comes after bytes that were laid.
 pub laid : (a : ℕ) (s x : List ℕ) → a ≤ length s → drop a (take a s ++ x) ≡ x
 laid a s x h = drop_at (take a s) x a (length-take-le a s h)
 

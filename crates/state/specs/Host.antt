@@ -6,7 +6,8 @@ use Rattle.numbers.specs.Numbers.{only}
 use Rattle.paper.specs.Feet.{Sent, paper_used}
 use Rattle.calls.specs.Core.{Stores, World}
 use Rattle.calls.specs.Calls.{Call, Outcome, lent, step}
-use Rattle.calls.specs.Start.{Asked, start_outcome}
+use Rattle.calls.specs.Start.{start_outcome}
+use Rattle.calls.specs.declared.Asked.{Asked}
 use Rattle.printer.specs.Layout.{state_size}
 use Rattle.state.specs.State.{bytes_of, world_at, readable}
 use Rattle.state.specs.Packed.{packed}

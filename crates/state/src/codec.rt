@@ -1,10 +1,11 @@
 // docs/STATE.md: the state's bytes, and back.
-ghost use Rattle.std.specs.Prelude.{◌≡◌, ◌+◌, ◌*◌, ◌++◌, length, take, drop, leb};
+ghost use Rattle.std.specs.Prelude.{◌≡◌, ◌++◌, take, drop, leb, is_some, IfSome};
 ghost use Rattle.seq.specs.Words.{all};
-ghost use Rattle.printer.specs.Layout.{pairs_at, fcb_at, sheet_at, channel_at, state_size};
+ghost use Rattle.printer.specs.Layout.{pairs_at, fcb_at, sheet_at, channel_at};
 ghost use Rattle.state.specs.State.{front_bytes, sheet_bytes, small_bytes, counter_bytes, printer_bytes, byte_at, flag_places, readable, state_at, printer_at};
 ghost use Rattle.state.specs.State.{OwnSheet, SameArrays, OwnCounters};
 
+use crate::Bytes;
 use calls::{Fixed, Sheet, State};
 use copies::Copies;
 use counters::Counters;
@@ -13,54 +14,45 @@ use line::Slots;
 use numbers::{Answer, Sense};
 use printer::{Printer, Step};
 
-// Each flag is 0 or 1.
-fn flags_ok(s: &[u8]) -> bool
-    requires { length s.now ≡ state_size }
+// Each flag is 0 or 1. Tested without a branch, as every call asks it.
+fn flags_ok(s: &Bytes) -> bool
     ensures { result ≡ all (λ n. leb (byte_at s.now n) 1) flag_places }
 {
     (s[Printer::SKIP_AT] <= 1)
-        & ((s[Printer::BLOCKED_AT] <= 1)
-            & ((s[Printer::LOADED_AT] <= 1)
-                & ((s[Printer::LOADED_AT + 1] <= 1)
-                    & ((s[Printer::LOADED_AT + 2] <= 1)
-                        & ((s[Printer::LOADED_AT + 3] <= 1)
-                            & ((s[Printer::WRITTEN_AT] <= 1)
-                                & ((s[Printer::WAITING_AT] <= 1) & (s[Printer::DUE_AT] <= 1))))))))
+        & (s[Printer::BLOCKED_AT] <= 1)
+        & (s[Printer::LOADED_AT] <= 1)
+        & (s[Printer::LOADED_AT + 1] <= 1)
+        & (s[Printer::LOADED_AT + 2] <= 1)
+        & (s[Printer::LOADED_AT + 3] <= 1)
+        & (s[Printer::WRITTEN_AT] <= 1)
+        & (s[Printer::WAITING_AT] <= 1)
+        & (s[Printer::DUE_AT] <= 1)
 }
 
-// Whether bytes stand for a printer.
-pub(crate) fn is_readable(s: &[u8]) -> bool
-    ensures { result ≡ readable s.now }
+// A state's bytes, where they stand for a printer.
+#[tactic(auto, unfolding(crate::specs::State::readable, seq::specs::Words::every))]
+pub(crate) fn readable(s: &[u8]) -> Option<&Bytes>
+    ensures variant { is_some result ≡ readable s.now }
+    ensures same { IfSome result (λ bytes. bytes.now ≡ s.now) }
 {
-    if s.len() != Printer::STATE_BYTES {
-        return false;
-    }
-    flags_ok(s)
-}
-
-// A number of two bytes, high byte first.
-fn pair(high: u8, low: u8) -> u16
-    ensures { result ≡ high * 256 + low }
-{
-    (high as u16) * 256 + (low as u16)
+    let bytes = s.as_array()?;
+    flags_ok(bytes).then_some(bytes)
 }
 
 // What Start fixed, and the sheet: all that the order of a command's refusals asks of a state.
-pub fn fixed(s: &[u8]) -> Fixed
-    requires { length s.now ≡ state_size }
+#[tactic(auto, unfolding(crate::specs::State::state_at))]
+pub fn fixed(s: &Bytes) -> Fixed
     ensures { result ≡ (state_at s.now).fixed }
 {
-    let mut pitches = [0u8; 4];
-    seq::copy_all(&mut pitches, &s[Printer::PITCHES_AT..Printer::SKIP_AT]);
     Fixed {
-        length: pair(s[Printer::LENGTH_AT], s[Printer::LENGTH_AT + 1]),
-        pitches: pitches,
+        length: u16::from_be_bytes([s[Printer::LENGTH_AT], s[Printer::LENGTH_AT + 1]]),
+        pitches: *s[Printer::PITCHES_AT..Printer::SKIP_AT].as_array().unwrap(),
         old: s[Printer::SKIP_AT] == 1,
     }
 }
 
-pub fn sheet(s: &[u8]) -> Sheet
-    requires { length s.now ≡ state_size }
+#[tactic(auto, unfolding(crate::specs::State::state_at))]
+pub fn sheet(s: &Bytes) -> Sheet
     ensures { result ≡ (state_at s.now).sheet }
 {
     Sheet {
@@ -71,20 +63,18 @@ pub fn sheet(s: &[u8]) -> Sheet
     }
 }
 
-fn forms(s: &[u8]) -> Forms
-    requires { length s.now ≡ state_size }
+#[tactic(auto, unfolding(crate::specs::State::state_at))]
+fn forms(s: &Bytes) -> Forms
     ensures { result ≡ (state_at s.now).forms }
 {
-    let mut fcb = [0u8; Forms::FCB_BYTES];
-    seq::copy_all(&mut fcb, &s[Printer::FCB_AT..Printer::CHANNEL_AT]);
     Forms {
-        fcb: fcb,
+        fcb: *s[Printer::FCB_AT..Printer::CHANNEL_AT].as_array().unwrap(),
         count: s[Printer::FCB_COUNT_AT],
     }
 }
 
-fn slots(s: &[u8]) -> Slots
-    requires { length s.now ≡ state_size }
+#[tactic(auto, unfolding(crate::specs::State::state_at))]
+fn slots(s: &Bytes) -> Slots
     ensures { result ≡ (state_at s.now).slots }
 {
     Slots {
@@ -98,21 +88,19 @@ fn slots(s: &[u8]) -> Slots
     }
 }
 
-fn copies(s: &[u8]) -> Copies
-    requires { length s.now ≡ state_size }
+#[tactic(auto, unfolding(crate::specs::State::state_at))]
+fn copies(s: &Bytes) -> Copies
     ensures { result ≡ (state_at s.now).copies }
 {
-    let mut pairs = [0u8; Copies::PAIR_BYTES];
-    seq::copy_all(&mut pairs, &s[Printer::PAIRS_AT..Printer::FCB_AT]);
     Copies {
-        pairs: pairs,
+        pairs: *s[Printer::PAIRS_AT..Printer::FCB_AT].as_array().unwrap(),
         count: s[Printer::PAIR_COUNT_AT],
         reference: s[Printer::REFERENCE_AT],
     }
 }
 
-fn sense(s: &[u8]) -> Sense
-    requires { length s.now ≡ state_size }
+#[tactic(auto, unfolding(crate::specs::State::sense_at))]
+fn sense(s: &Bytes) -> Sense
     ensures { result ≡ (printer_at s.now).sense }
 {
     Sense {
@@ -124,21 +112,21 @@ fn sense(s: &[u8]) -> Sense
     }
 }
 
-pub(crate) fn counters(s: &[u8]) -> Counters
-    requires { length s.now ≡ state_size }
+#[tactic(auto, unfolding(crate::specs::State::state_at))]
+pub(crate) fn counters(s: &Bytes) -> Counters
     ensures { result ≡ (state_at s.now).counters }
 {
     Counters {
-        channel: pair(s[Printer::CHANNEL_AT], s[Printer::CHANNEL_AT + 1]),
-        transfer: pair(s[Printer::TRANSFER_AT], s[Printer::TRANSFER_AT + 1]),
-        fuser: pair(s[Printer::FUSER_AT], s[Printer::FUSER_AT + 1]),
-        stacker: pair(s[Printer::STACKER_AT], s[Printer::STACKER_AT + 1]),
+        channel: u16::from_be_bytes([s[Printer::CHANNEL_AT], s[Printer::CHANNEL_AT + 1]]),
+        transfer: u16::from_be_bytes([s[Printer::TRANSFER_AT], s[Printer::TRANSFER_AT + 1]]),
+        fuser: u16::from_be_bytes([s[Printer::FUSER_AT], s[Printer::FUSER_AT + 1]]),
+        stacker: u16::from_be_bytes([s[Printer::STACKER_AT], s[Printer::STACKER_AT + 1]]),
     }
 }
 
 // The printer that bytes stand for.
-pub fn decode(s: &[u8]) -> Printer
-    requires { length s.now ≡ state_size }
+#[tactic(auto, unfolding(crate::specs::State::state_at))]
+pub fn decode(s: &Bytes) -> Printer
     ensures { result ≡ printer_at s.now }
 {
     let state = State {
@@ -151,7 +139,7 @@ pub fn decode(s: &[u8]) -> Printer
         counters: counters(s),
     };
     Printer {
-        state: state,
+        state,
         sense: sense(s),
     }
 }
@@ -159,22 +147,23 @@ pub fn decode(s: &[u8]) -> Printer
 fn front_bytes(state: State) -> [u8; Printer::SHEET_AT]
     ensures { result ≡ front_bytes state }
 {
-    let fixed = state.fixed;
+    let [high, low] = state.fixed.length.to_be_bytes();
+    let pitches = state.fixed.pitches;
     let slots = state.slots;
     [
-        (fixed.length / 256) as u8,
-        (fixed.length % 256) as u8,
-        fixed.pitches[0],
-        fixed.pitches[1],
-        fixed.pitches[2],
-        fixed.pitches[3],
-        fixed.old as u8,
-        state.blocked as u8,
+        high,
+        low,
+        pitches[0],
+        pitches[1],
+        pitches[2],
+        pitches[3],
+        u8::from(state.fixed.old),
+        u8::from(state.blocked),
         state.forms.count,
-        slots.loaded[0] as u8,
-        slots.loaded[1] as u8,
-        slots.loaded[2] as u8,
-        slots.loaded[3] as u8,
+        u8::from(slots.loaded[0]),
+        u8::from(slots.loaded[1]),
+        u8::from(slots.loaded[2]),
+        u8::from(slots.loaded[3]),
         slots.selected,
         state.copies.count,
         state.copies.reference,
@@ -182,72 +171,61 @@ fn front_bytes(state: State) -> [u8; Printer::SHEET_AT]
 }
 
 // The bytes of the sheet and the sense, over their places.
-fn lay_sheet(sheet: Sheet, sense: Sense, s: &mut [u8])
-    requires { length s.old ≡ state_size }
+fn lay_sheet(sheet: Sheet, sense: Sense, s: &mut Bytes)
     ensures { s.new ≡ take sheet_at s.old ++ (sheet_bytes sheet sense ++ drop pairs_at s.old) }
 {
     let bytes = [
         sheet.line,
-        sheet.written as u8,
-        sheet.waiting as u8,
-        sheet.due as u8,
+        u8::from(sheet.written),
+        u8::from(sheet.waiting),
+        u8::from(sheet.due),
         sense.b0,
         sense.b1,
         sense.b2,
         sense.b22,
         sense.b23,
     ];
-    seq::copy_all(&mut s[Printer::SHEET_AT..Printer::PAIRS_AT], &bytes);
+    s[Printer::SHEET_AT..Printer::PAIRS_AT].copy_from_slice(&bytes);
 }
 
 // The bytes of all but the arrays and the counters.
-fn lay_small(p: Printer, s: &mut [u8])
-    requires { length s.old ≡ state_size }
+fn lay_small(p: Printer, s: &mut Bytes)
     ensures { s.new ≡ small_bytes p.state p.sense ++ drop pairs_at s.old }
 {
     let state = p.state;
-    let front = front_bytes(state);
-    seq::copy_all(&mut s[0..Printer::SHEET_AT], &front);
+    s[..Printer::SHEET_AT].copy_from_slice(&front_bytes(state));
     lay_sheet(state.sheet, p.sense, s);
 }
 
 // The bytes of each array.
-fn lay_pairs(copies: Copies, s: &mut [u8])
-    requires { length s.old ≡ state_size }
+fn lay_pairs(copies: Copies, s: &mut Bytes)
     ensures { s.new ≡ take pairs_at s.old ++ (copies.pairs ++ drop fcb_at s.old) }
 {
-    let pairs = copies.pairs;
-    seq::copy_all(&mut s[Printer::PAIRS_AT..Printer::FCB_AT], &pairs);
+    s[Printer::PAIRS_AT..Printer::FCB_AT].copy_from_slice(&copies.pairs);
 }
 
-fn lay_fcb(forms: Forms, s: &mut [u8])
-    requires { length s.old ≡ state_size }
+fn lay_fcb(forms: Forms, s: &mut Bytes)
     ensures { s.new ≡ take fcb_at s.old ++ (forms.fcb ++ drop channel_at s.old) }
 {
-    let fcb = forms.fcb;
-    seq::copy_all(&mut s[Printer::FCB_AT..Printer::CHANNEL_AT], &fcb);
+    s[Printer::FCB_AT..Printer::CHANNEL_AT].copy_from_slice(&forms.fcb);
 }
 
 // The bytes of the counters.
-fn lay_counters(counters: Counters, s: &mut [u8])
-    requires { length s.old ≡ state_size }
+fn lay_counters(counters: Counters, s: &mut Bytes)
     ensures { s.new ≡ take channel_at s.old ++ counter_bytes counters }
 {
     let bytes = [
-        (counters.channel / 256) as u8,
-        (counters.channel % 256) as u8,
-        (counters.transfer / 256) as u8,
-        (counters.transfer % 256) as u8,
-        (counters.fuser / 256) as u8,
-        (counters.fuser % 256) as u8,
-        (counters.stacker / 256) as u8,
-        (counters.stacker % 256) as u8,
+        counters.channel.to_be_bytes(),
+        counters.transfer.to_be_bytes(),
+        counters.fuser.to_be_bytes(),
+        counters.stacker.to_be_bytes(),
     ];
-    seq::copy_all(&mut s[Printer::CHANNEL_AT..Printer::STATE_BYTES], &bytes);
+    s[Printer::CHANNEL_AT..].copy_from_slice(bytes.as_flattened());
 }
 
-// A step's printer back into the state, where no more than its sheet and its sense can have changed: nine bytes.
-pub fn put_sheet(step: Step, s: &mut [u8]) -> Answer
+// A step's printer back into the state. Four functions, as each command puts back what it can change and the compiler leaves out all else: here no more
+// than the sheet and the sense, nine bytes.
+pub fn put_sheet(step: Step, s: &mut Bytes) -> Answer
     requires { OwnSheet step.printer s.old }
     ensures answer { result ≡ step.answer }
     ensures state { s.new ≡ printer_bytes step.printer }
@@ -258,7 +236,7 @@ pub fn put_sheet(step: Step, s: &mut [u8]) -> Answer
 }
 
 // Where neither its arrays nor its counters can have changed.
-pub fn put_small(step: Step, s: &mut [u8]) -> Answer
+pub fn put_small(step: Step, s: &mut Bytes) -> Answer
     requires { SameArrays step.printer s.old }
     ensures answer { result ≡ step.answer }
     ensures state { s.new ≡ printer_bytes step.printer }
@@ -268,7 +246,7 @@ pub fn put_small(step: Step, s: &mut [u8]) -> Answer
 }
 
 // Where its counters alone can have changed: eight bytes.
-pub fn put_counters(step: Step, s: &mut [u8]) -> Answer
+pub fn put_counters(step: Step, s: &mut Bytes) -> Answer
     requires { OwnCounters step.printer s.old }
     ensures answer { result ≡ step.answer }
     ensures state { s.new ≡ printer_bytes step.printer }
@@ -279,8 +257,7 @@ pub fn put_counters(step: Step, s: &mut [u8]) -> Answer
 }
 
 // And where any field can have changed.
-pub fn put_all(step: Step, s: &mut [u8]) -> Answer
-    requires { length s.old ≡ state_size }
+pub fn put_all(step: Step, s: &mut Bytes) -> Answer
     ensures answer { result ≡ step.answer }
     ensures state { s.new ≡ printer_bytes step.printer }
 {

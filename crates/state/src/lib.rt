@@ -4,3 +4,8 @@
 pub mod answer;
 pub mod codec;
 pub mod judge;
+
+use printer::Printer;
+
+// A state's bytes, as docs/STATE.md lays them out.
+pub type Bytes = [u8; Printer::STATE_BYTES];

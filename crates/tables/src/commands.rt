@@ -1,59 +1,70 @@
 // The bytes that are commands, each with what it is decoded to.
 use calls::{Command, Control, Load};
 use movement::Motion;
-use script::show;
-use std::io;
+use std::{fmt, io};
 
-fn motion(rt: &impl Print, name: &[u8], motion: Motion) -> io::Result<()> {
-    show::text(rt, name)?;
-    match motion {
-        Motion::Space(lines) => show::count(rt, b" space", lines as u64),
-        Motion::Skip(channel) => show::count(rt, b" skip", channel as u64),
+// What a command is for, in words.
+#[derive(Clone, Copy)]
+struct Words(Command);
+
+#[derive(Clone, Copy)]
+struct Asked(Motion);
+
+#[derive(Clone, Copy)]
+struct Switch(Control);
+
+impl fmt::Display for Asked {
+    fn fmt<W: fmt::Write>(&self, f: &mut fmt::Formatter<W>) -> fmt::Result {
+        match self.0 {
+            Motion::Space(lines) => write!(f, "space {lines}"),
+            Motion::Skip(channel) => write!(f, "skip {channel}"),
+        }
     }
 }
 
-fn control(rt: &impl Print, control: Control) -> io::Result<()> {
-    match control {
-        Control::NoOp => show::text(rt, b" no-op"),
-        Control::SenseIo => show::text(rt, b" sense"),
-        Control::Initialize => show::text(rt, b" initialize"),
-        Control::Clear => show::text(rt, b" clear"),
-        Control::Block => show::text(rt, b" block"),
-        Control::Allow => show::text(rt, b" allow"),
-        Control::Select(slot) => show::count(rt, b" select", slot as u64),
+impl fmt::Display for Switch {
+    fn fmt<W: fmt::Write>(&self, f: &mut fmt::Formatter<W>) -> fmt::Result {
+        match self.0 {
+            Control::NoOp => write!(f, "no-op"),
+            Control::SenseIo => write!(f, "sense"),
+            Control::Initialize => write!(f, "initialize"),
+            Control::Clear => write!(f, "clear"),
+            Control::Block => write!(f, "block"),
+            Control::Allow => write!(f, "allow"),
+            Control::Select(slot) => write!(f, "select {slot}"),
+        }
     }
 }
 
-fn load(rt: &impl Print, load: Load) -> io::Result<()> {
+fn load_name(load: Load) -> &'static str {
     match load {
-        Load::Fcb => show::text(rt, b" load fcb"),
-        Load::TranslateTable => show::text(rt, b" load table"),
-        Load::CopyModification => show::text(rt, b" load copy modification"),
-        Load::OverlaySequence => show::text(rt, b" load overlay sequence"),
-        Load::CopyNumber => show::text(rt, b" load copy number"),
+        Load::Fcb => "fcb",
+        Load::TranslateTable => "table",
+        Load::CopyModification => "copy modification",
+        Load::OverlaySequence => "overlay sequence",
+        Load::CopyNumber => "copy number",
     }
 }
 
-fn command(rt: &impl Print, byte: u8) -> io::Result<()> {
-    let decoded = refusals::commands::decode(byte);
-    if let Command::Unlisted = decoded {
-        return Ok(());
+impl fmt::Display for Words {
+    fn fmt<W: fmt::Write>(&self, f: &mut fmt::Formatter<W>) -> fmt::Result {
+        match self.0 {
+            Command::Write(motion) => write!(f, "write {}", Asked(motion)),
+            Command::Move(motion) => write!(f, "move {}", Asked(motion)),
+            Command::Controls(control) => write!(f, "{}", Switch(control)),
+            Command::Loads(load) => write!(f, "load {}", load_name(load)),
+            Command::Unlisted => write!(f, "unlisted"),
+        }
     }
-    show::byte(rt, b"command", byte)?;
-    match decoded {
-        Command::Write(to) => motion(rt, b" write", to)?,
-        Command::Move(to) => motion(rt, b" move", to)?,
-        Command::Controls(which) => control(rt, which)?,
-        Command::Loads(which) => load(rt, which)?,
-        Command::Unlisted => {}
-    }
-    show::text(rt, b"\n")
 }
 
 pub fn commands(rt: &impl Print) -> io::Result<()> {
-    show::text(rt, b"# command: its byte, and what it is for\n")?;
-    for n in 0usize..256 {
-        command(rt, (n % 256) as u8)?;
+    rt.println("# command: its byte, and what it is for")?;
+    for byte in 0..=255u8 {
+        let command = refusals::commands::decode(byte);
+        if !matches!(command, Command::Unlisted) {
+            println!(rt; "command {byte:02X} {}", Words(command))?;
+        }
     }
     Ok(())
 }

@@ -1,105 +1,121 @@
 // The rows of the table of numbers, by their names in include/trestlepip.h.
-use numbers::{Cause, Refusal, Sense, SenseStep};
-use script::show;
-use std::io;
+ghost use Rattle.std.specs.List.{Contains};
+ghost use Rattle.numbers.specs.declared.Refusal.{Refusal};
+
+use numbers::{Cause, Refusal, SenseStep};
+use script::show::Hex;
+use std::{fmt, io};
 
 // A byte count whose two bytes differ from each other and from 00.
 const COUNT: u16 = 0x1234;
 
-// Prints a row's names. Answers the refusal whose row comes next.
-fn names(rt: &impl Print, number: &[u8], cause: &[u8], next: Refusal) -> io::Result<Refusal> {
-    show::text(rt, b"row ")?;
-    show::text(rt, number)?;
-    show::text(rt, b" ")?;
-    show::text(rt, cause)?;
-    Ok(next)
-}
+// The names of a number and of its cause.
+#[derive(Clone, Copy)]
+struct Names(Refusal);
 
-fn plain(rt: &impl Print, number: &[u8], next: Refusal) -> io::Result<Refusal> {
-    names(rt, number, b"NO_CAUSE", next)
-}
+// The sense bytes that a row sets.
+#[derive(Clone, Copy)]
+struct After(SenseStep);
 
-fn check(rt: &impl Print, cause: &[u8], next: Cause) -> io::Result<Refusal> {
-    names(rt, b"LOAD_CHECK", cause, Refusal::LoadCheck(next))
-}
-
-// Each cause leads to the next, the last to PageWaiting. The compiler refuses a match without an arm for every cause, so none is left out.
-fn after_cause(rt: &impl Print, cause: Cause) -> io::Result<Refusal> {
+fn cause_name(cause: Cause) -> &'static str {
     match cause {
-        Cause::FcbChannel => check(rt, b"FCB_CHANNEL", Cause::FcbSpacing),
-        Cause::FcbSpacing => check(rt, b"FCB_SPACING", Cause::FcbSum),
-        Cause::FcbSum => check(rt, b"FCB_SUM", Cause::FcbEdge),
-        Cause::FcbEdge => check(rt, b"FCB_EDGE", Cause::TableShort),
-        Cause::TableShort => check(rt, b"TABLE_SHORT", Cause::SequencePairs),
-        Cause::SequencePairs => check(rt, b"SEQUENCE_PAIRS", Cause::SequenceCounts),
-        Cause::SequenceCounts => check(rt, b"SEQUENCE_COUNTS", Cause::NumberRecord),
-        Cause::NumberRecord => check(rt, b"NUMBER_RECORD", Cause::SegmentEnds),
-        Cause::SegmentEnds => check(rt, b"SEGMENT_ENDS", Cause::SegmentFields),
-        Cause::SegmentFields => names(rt, b"LOAD_CHECK", b"SEGMENT_FIELDS", Refusal::PageWaiting),
+        Cause::FcbChannel => "FCB_CHANNEL",
+        Cause::FcbSpacing => "FCB_SPACING",
+        Cause::FcbSum => "FCB_SUM",
+        Cause::FcbEdge => "FCB_EDGE",
+        Cause::TableShort => "TABLE_SHORT",
+        Cause::SequencePairs => "SEQUENCE_PAIRS",
+        Cause::SequenceCounts => "SEQUENCE_COUNTS",
+        Cause::NumberRecord => "NUMBER_RECORD",
+        Cause::SegmentEnds => "SEGMENT_ENDS",
+        Cause::SegmentFields => "SEGMENT_FIELDS",
     }
 }
 
-// Each refusal leads to the next, the last to the first.
-fn after(rt: &impl Print, refusal: Refusal) -> io::Result<Refusal> {
-    match refusal {
-        Refusal::Accepted => plain(rt, b"ACCEPTED", Refusal::NotListed),
-        Refusal::NotListed => plain(rt, b"NOT_LISTED", Refusal::BadRecord),
-        Refusal::BadRecord => plain(rt, b"BAD_RECORD", Refusal::LoadCheck(Cause::FcbChannel)),
-        Refusal::LoadCheck(cause) => after_cause(rt, cause),
-        Refusal::PageWaiting => plain(rt, b"PAGE_WAITING", Refusal::PageStarted),
-        Refusal::PageStarted => plain(rt, b"PAGE_STARTED", Refusal::NoPage),
-        Refusal::NoPage => plain(rt, b"NO_PAGE", Refusal::BadIndex),
-        Refusal::BadIndex => plain(rt, b"BAD_INDEX", Refusal::TooShort),
-        Refusal::TooShort => plain(rt, b"TOO_SHORT", Refusal::BadStore),
-        Refusal::BadStore => plain(rt, b"BAD_STORE", Refusal::BadForm),
-        Refusal::BadForm => plain(rt, b"BAD_FORM", Refusal::TwoPages),
-        Refusal::TwoPages => plain(rt, b"TWO_PAGES", Refusal::NoneBetween),
-        Refusal::NoneBetween => plain(rt, b"NONE_BETWEEN", Refusal::MostBetween),
-        Refusal::MostBetween => plain(rt, b"MOST_BETWEEN", Refusal::BadPaper),
-        Refusal::BadPaper => plain(rt, b"BAD_PAPER", Refusal::Accepted),
+impl fmt::Display for Names {
+    fn fmt<W: fmt::Write>(&self, f: &mut fmt::Formatter<W>) -> fmt::Result {
+        let number = match self.0 {
+            Refusal::LoadCheck(cause) => return write!(f, "LOAD_CHECK {}", cause_name(cause)),
+            Refusal::Accepted => "ACCEPTED",
+            Refusal::NotListed => "NOT_LISTED",
+            Refusal::BadRecord => "BAD_RECORD",
+            Refusal::PageWaiting => "PAGE_WAITING",
+            Refusal::PageStarted => "PAGE_STARTED",
+            Refusal::NoPage => "NO_PAGE",
+            Refusal::BadIndex => "BAD_INDEX",
+            Refusal::TooShort => "TOO_SHORT",
+            Refusal::BadStore => "BAD_STORE",
+            Refusal::BadForm => "BAD_FORM",
+            Refusal::TwoPages => "TWO_PAGES",
+            Refusal::NoneBetween => "NONE_BETWEEN",
+            Refusal::MostBetween => "MOST_BETWEEN",
+            Refusal::BadPaper => "BAD_PAPER",
+        };
+        write!(f, "{number} NO_CAUSE")
     }
 }
 
-fn anew(rt: &impl Print, sense: Sense) -> io::Result<()> {
-    show::byte(rt, b"", sense.b0)?;
-    show::byte(rt, b"", sense.b1)?;
-    show::byte(rt, b"", sense.b2)?;
-    show::byte(rt, b"", sense.b22)?;
-    show::byte(rt, b"", sense.b23)
-}
-
-fn sense(rt: &impl Print, step: SenseStep) -> io::Result<()> {
-    match step {
-        SenseStep::Keep => show::text(rt, b" kept"),
-        SenseStep::Anew(sense) => anew(rt, sense),
-        SenseStep::NoSense => show::text(rt, b" none"),
+impl fmt::Display for After {
+    fn fmt<W: fmt::Write>(&self, f: &mut fmt::Formatter<W>) -> fmt::Result {
+        match self.0 {
+            SenseStep::Keep => write!(f, " kept"),
+            SenseStep::Anew(s) => write!(f, "{}", Hex(&[s.b0, s.b1, s.b2, s.b22, s.b23])),
+            SenseStep::NoSense => write!(f, " none"),
+        }
     }
 }
 
-// Prints a row. Answers the refusal whose row comes next.
-fn tell(rt: &impl Print, refusal: Refusal) -> io::Result<Refusal> {
-    let next = after(rt, refusal)?;
+// Every refusal, in the order of the numbers and causes: none is left out.
+fn all() -> [Refusal; 24]
+    ensures { (x : Refusal) → Contains result x }
+{
+    [
+        Refusal::Accepted,
+        Refusal::NotListed,
+        Refusal::BadRecord,
+        Refusal::LoadCheck(Cause::FcbChannel),
+        Refusal::LoadCheck(Cause::FcbSpacing),
+        Refusal::LoadCheck(Cause::FcbSum),
+        Refusal::LoadCheck(Cause::FcbEdge),
+        Refusal::LoadCheck(Cause::TableShort),
+        Refusal::LoadCheck(Cause::SequencePairs),
+        Refusal::LoadCheck(Cause::SequenceCounts),
+        Refusal::LoadCheck(Cause::NumberRecord),
+        Refusal::LoadCheck(Cause::SegmentEnds),
+        Refusal::LoadCheck(Cause::SegmentFields),
+        Refusal::PageWaiting,
+        Refusal::PageStarted,
+        Refusal::NoPage,
+        Refusal::BadIndex,
+        Refusal::TooShort,
+        Refusal::BadStore,
+        Refusal::BadForm,
+        Refusal::TwoPages,
+        Refusal::NoneBetween,
+        Refusal::MostBetween,
+        Refusal::BadPaper,
+    ]
+}
+
+fn tell(rt: &impl Print, refusal: Refusal) -> io::Result<()> {
     let row = refusal.row(COUNT);
-    show::count(rt, b"", row.number as u64)?;
-    show::count(rt, b"", row.cause as u64)?;
-    show::byte(rt, b"", row.status)?;
-    let step = row.sense;
-    sense(rt, step)?;
-    show::text(rt, b"\n")?;
-    Ok(next)
+    println!(rt;
+        "row {} {} {} {:02X}{}",
+        Names(refusal),
+        row.number,
+        row.cause,
+        row.status,
+        After(row.sense)
+    )
 }
 
 pub fn rows(rt: &impl Print) -> io::Result<()> {
-    show::text(
-        rt,
-        b"# row: the names of a number and of its cause, both as numbers, the status, and sense bytes 0, 1, 2, 22, 23 for a record of 4660 (1234 hexadecimal) bytes\n",
+    rt.println(
+        "# row: the names of a number and of its cause, both as numbers, the status, \
+         and sense bytes 0, 1, 2, 22, 23 for a record of 4660 (1234 hexadecimal) bytes",
     )?;
-    let mut refusal = Refusal::Accepted;
-    for i in 0usize..256 {
-        refusal = tell(rt, refusal)?;
-        if refusal.is_accepted() {
-            return Ok(());
-        }
+    for refusal in all() {
+        tell(rt, refusal)?;
     }
     Ok(())
 }

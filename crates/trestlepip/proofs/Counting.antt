@@ -13,7 +13,8 @@ use Rattle.counters.specs.Counters.{start_counters, pages_out, counters_ok}
 use Rattle.calls.specs.Core.{Stores, World}
 use Rattle.calls.specs.Reset.{reset_state, fresh}
 use Rattle.calls.specs.Calls.{Call, lent, step}
-use Rattle.calls.specs.Start.{Asked, start_world}
+use Rattle.calls.specs.Start.{start_world}
+use Rattle.calls.specs.declared.Asked.{Asked}
 use Rattle.calls.specs.Lists.{world_after}
 use Rattle.calls.specs.Pages.{Pages, no_pages, pages_over}
 use Rattle.calls.specs.Premises.{Sized}

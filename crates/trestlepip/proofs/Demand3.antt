@@ -10,7 +10,8 @@ use Rattle.numbers.specs.Numbers.{no_sense, is_accepted}
 use Rattle.calls.specs.Core.{Stores, Core, World}
 use Rattle.calls.specs.Reset.{Kept}
 use Rattle.calls.specs.Calls.{Call, compose, effect, step}
-use Rattle.calls.specs.Start.{Asked, start_refusal, start_world}
+use Rattle.calls.specs.Start.{start_refusal, start_world}
+use Rattle.calls.specs.declared.Asked.{Asked}
 use Rattle.calls.specs.Lists.{world_after, since_reset}
 use Rattle.calls.specs.Premises.{Sized}
 use Rattle.calls.proofs.Accepted.{started-world}

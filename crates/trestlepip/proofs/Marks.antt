@@ -10,7 +10,8 @@ use Rattle.numbers.specs.Numbers.{is_accepted}
 use Rattle.line.specs.Cells.{marks_ok}
 use Rattle.calls.specs.Core.{Stores}
 use Rattle.calls.specs.Calls.{Call, release, refusal_of, step}
-use Rattle.calls.specs.Start.{Asked, start_world}
+use Rattle.calls.specs.Start.{start_world}
+use Rattle.calls.specs.declared.Asked.{Asked}
 use Rattle.calls.specs.Lists.{world_after}
 use Rattle.calls.specs.Marks.{cell_in}
 use Rattle.calls.proofs.Accepted.{started-world}

@@ -23,7 +23,8 @@ use Rattle.calls.specs.Contents.{due_ok}
 use Rattle.calls.specs.Reset.{blank_sheet, Kept, kept_of, reset_state, reset, fresh}
 use Rattle.calls.specs.Effects.{Effect, refused, done, moved_sheet, move_of, at_once, written_sheet, written, at_line1, loaded, do_move, do_write, do_load, completing, do_control, do_command}
 use Rattle.calls.specs.Calls.{Call, command, compose, release, tally, refusal_of, page_counted, emptied, released, do_release, tallying, do_tally, perform, effect, step}
-use Rattle.calls.specs.Start.{Asked, start_world}
+use Rattle.calls.specs.Start.{start_world}
+use Rattle.calls.specs.declared.Asked.{Asked}
 use Rattle.calls.specs.Lists.{world_after, counts, Deed, deed_of, finishes_reset, Given, given, Since, since_now, note, since_over, since_reset}
 use Rattle.calls.specs.Pages.{counters_by}
 use Rattle.calls.specs.Premises.{Sized}

@@ -16,7 +16,8 @@ use Rattle.numbers.proofs.Laws.{accepted-is}
 use Rattle.calls.specs.Core.{Stores}
 use Rattle.calls.specs.Reset.{fresh}
 use Rattle.calls.specs.Calls.{Call, lent, Outcome, step}
-use Rattle.calls.specs.Start.{Asked, fixed_by, start_refusal, start_kept, start_world, no_state, no_printer, start_outcome}
+use Rattle.calls.specs.Start.{fixed_by, start_refusal, start_kept, start_world, no_state, no_printer, start_outcome}
+use Rattle.calls.specs.declared.Asked.{Asked}
 use Rattle.calls.specs.Lists.{world_after}
 use Rattle.calls.specs.Premises.{Sized}
 use Rattle.calls.proofs.Accepted.{startable, started-world}

@@ -6,7 +6,7 @@ use mathlib.Core.List.{List, [], ◌∷◌}
 use Rattle.paper.specs.Feet.{Sent}
 use Rattle.calls.specs.Core.{Stores}
 use Rattle.calls.specs.Calls.{Call}
-use Rattle.calls.specs.Start.{Asked}
+use Rattle.calls.specs.declared.Asked.{Asked}
 use Rattle.state.specs.Host.{Called, Held, Told, call_bytes, start_bytes, feet_told, held_of, call_on, bytes_after}
 
 -- Start's, and that of every other call on a printer.

@@ -10,7 +10,8 @@ use Rattle.numbers.specs.declared.Refusal.TheVariants.{BadStore}
 use Rattle.numbers.specs.Numbers.{only}
 use Rattle.calls.specs.Core.{Stores}
 use Rattle.calls.specs.Calls.{Call, lent, Outcome, step}
-use Rattle.calls.specs.Start.{Asked, start_outcome}
+use Rattle.calls.specs.Start.{start_outcome}
+use Rattle.calls.specs.declared.Asked.{Asked}
 use Rattle.printer.specs.Layout.{reference_at, state_size}
 use Rattle.state.specs.State.{state_at, world_at, Bytes, readable}
 use Rattle.state.specs.Packed.{packed}

@@ -15,7 +15,8 @@ use Rattle.line.specs.Line.{told}
 use Rattle.line.proofs.UnprintableLaws.{Tells, none-tells}
 use Rattle.calls.specs.Core.{Stores}
 use Rattle.calls.specs.Calls.{Call, lent, Outcome, step}
-use Rattle.calls.specs.Start.{Asked, start_refusal, start_outcome}
+use Rattle.calls.specs.Start.{start_refusal, start_outcome}
+use Rattle.calls.specs.declared.Asked.{Asked}
 use Rattle.calls.proofs.Answers.{names}
 use Rattle.calls.proofs.Unprintable.{told_in, is_translating, tells, tells_none, tells-check}
 use Rattle.printer.specs.Layout.{blocked_at, sense0_at, state_size}

@@ -10,7 +10,8 @@ use Rattle.calls.specs.declared.State.{State}
 use Rattle.calls.specs.Core.{Stores, World}
 use Rattle.calls.specs.Reset.{reset_state, fresh}
 use Rattle.calls.specs.Calls.{Call, step}
-use Rattle.calls.specs.Start.{Asked, asked, new_way, old_way, start_world}
+use Rattle.calls.specs.Start.{asked, new_way, old_way, start_world}
+use Rattle.calls.specs.declared.Asked.{Asked}
 use Rattle.calls.specs.Lists.{world_after}
 use Rattle.calls.specs.Ways.{with_way, world_in, call_stands, none_stands}
 use Rattle.calls.proofs.Ways.{same_step, same-list}

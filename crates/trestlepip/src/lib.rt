@@ -11,6 +11,7 @@ ghost use Rattle.calls.specs.Calls.{command, compose, release, tally};
 ghost use Rattle.calls.specs.Start.{asked};
 ghost use Rattle.state.specs.Host.{called, call_bytes, start_bytes, told, feet_told};
 
+use calls::Asked;
 use counters::Tally;
 
 pub fn trestlepip_start(
@@ -29,9 +30,12 @@ pub fn trestlepip_start(
         ≡ start_bytes (asked form (pitch0 ∷ pitch1 ∷ pitch2 ∷ pitch3 ∷ []) skip) state.old
         (stores_of page.old legends.old tables.old) }
 {
-    serve::start(
-        form, pitch0, pitch1, pitch2, pitch3, skip, state, page, legends, tables,
-    )
+    let asked = Asked {
+        length: form,
+        pitches: [pitch0, pitch1, pitch2, pitch3],
+        skip,
+    };
+    serve::start(asked, state, page, legends, tables)
 }
 
 pub fn trestlepip_command(

@@ -1,11 +1,8 @@
--- The answer is what was found so far, or what the pairs from i on show.
-use Rattle.std.proofs.Common.{◌≡◌, ◌-◌, ◌≤◌, ◌||◌, length, drop}
+-- The pairs before this one are looked at.
+use Rattle.std.proofs.Common.{◌≡◌, map, take}
 use Rattle.seq.specs.Words.{any}
-use Rattle.copies.specs.Copies.{pairs_of, bad_pair}
+use Rattle.copies.specs.Copies.{pair_of, bad_pair}
 use Rattle.copies.proofs.any_bad_pair.Given as goal
 
-abbrev pub invariant-loop-i : goal.invariant-loop-i
-invariant-loop-i l = (l.i ≤ l.n) × ((l.n ≡ length l.pairs) × (any bad_pair (pairs_of l.pairs) ≡ (l.bad || any bad_pair (pairs_of (drop l.i l.pairs)))))
-
-abbrev pub decreases-loop-i : goal.decreases-loop-i
-decreases-loop-i l = l.n - l.i
+abbrev pub invariant-loop-copies : goal.invariant-loop-copies
+invariant-loop-copies l = l.bad ≡ any bad_pair (map pair_of (take l.copies-index l.copies-items))

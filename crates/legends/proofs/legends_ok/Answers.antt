@@ -4,4 +4,4 @@ use Rattle.legends.proofs.StoredLaws.{ok_end}
 use Rattle.legends.proofs.legends_ok.Goals as goal
 
 pub returns : goal.returns
-returns c = c.zero_from.ensures ∙ sym (c.sound_end-at.ensures.stored ∙ ok_end _ c.sound_end-at.ensures.stops)
+returns c = c.zero_from.ensures ∙ sym (c.after_sound.ensures.stored ∙ ok_end _ c.after_sound.ensures.stops)

@@ -4,7 +4,7 @@ use Rattle.seq.proofs.Loops.{none-past}
 use Rattle.seq.proofs.all_zero.Goals as goal
 
 pub returns-then-s-lt-LARGE_BLOCK : goal.returns-then-s-lt-LARGE_BLOCK
-returns-then-s-lt-LARGE_BLOCK c = ap not c.any_above_by.ensures ∙ none-past c.args.s.now (λ i. omega (arith, c.shared_slice_known-1.given i))
+returns-then-s-lt-LARGE_BLOCK c = ap not c.any_above_by.ensures ∙ none-past c.args.s.now (λ i. omega (arith, c.type_inv.s i))
 
-pub returns : goal.returns
-returns c = ap not c.any_above_by-2.ensures ∙ none-past c.args.s.now (λ i. omega (arith, c.shared_slice_known-1.given i))
+pub returns-else-s-lt-LARGE_BLOCK : goal.returns-else-s-lt-LARGE_BLOCK
+returns-else-s-lt-LARGE_BLOCK c = ap not c.any_above_by-else-s-lt-LARGE_BLOCK.ensures ∙ none-past c.args.s.now (λ i. omega (arith, c.type_inv.s i))

@@ -1,11 +1,11 @@
--- The blocks behind `at` have nothing past the limit. The last block begins among them, so that nothing is left out before it.
-use Rattle.std.proofs.Common.{◌≡◌, ◌-◌, ◌≤◌, false, length, take}
+-- What the blocks so far have shown: nothing past the limit in front of what is left to cut.
+use Rattle.std.proofs.Common.{◌≡◌, ◌-◌, take}
 use Rattle.seq.specs.Scan.{past}
-use Rattle.seq.specs.Words.{any}
+use Rattle.seq.proofs.Loops.{Behind}
 use Rattle.seq.proofs.any_above_by.Given as goal
 
-abbrev pub invariant-loop-at : goal.invariant-loop-at
-invariant-loop-at l = (l.at ≤ l.n) × ((l.n ≡ length l.s) × (any (past l.base l.limit) (take l.at l.s) ≡ false))
-
-abbrev pub decreases-loop-at : goal.decreases-loop-at
-decreases-loop-at l = l.n - l.at
+abbrev pub invariant-loop-part : goal.invariant-loop-part
+invariant-loop-part l = record {
+  size : l.part-iterator.size ≡ l.block;
+  behind : Behind (past l.base l.limit) (take (l.n - 1) l.s) l.part-iterator.rest.now;
+}

@@ -36,7 +36,7 @@ put_small-requires-in-Select c = same-arrays c.args.state.now c.decode-in-Select
 
 pub returns-in-NoOp : goal.returns-in-NoOp
 unfolding do_control
-returns-in-NoOp c = λ p. rw c.in-NoOp.is (left_alone c.args.state.now c.decode.ensures c.args.reply.now ((stores_of p c.args.legends.now c.args.tables.now)) (λ k. do_control k NoOp) (c.no_op-step.ensures _ _) (λ n. omega (arith, c.slice_known-2-1.given n)) c.requires.bytes.read refl refl)
+returns-in-NoOp c = λ p. rw c.in-NoOp.is (left_alone c.args.state.now c.decode.ensures c.args.reply.now ((stores_of p c.args.legends.now c.args.tables.now)) (λ k. do_control k NoOp) (c.no_op.ensures _ _) (λ n. omega (arith, c.fits-state n)) c.requires.bytes.read refl refl)
 
 pub returns-in-SenseIo : goal.returns-in-SenseIo
 returns-in-SenseIo c = λ p. rw c.in-SenseIo.is (put_back c.args.state.now c.decode-in-SenseIo.ensures c.args.reply.now ((stores_of p c.args.legends.now c.args.tables.now)) (λ k. do_control k SenseIo) (c.sense_io.ensures _) c.put_sheet.ensures.answer c.put_sheet.ensures.state)
@@ -58,6 +58,3 @@ returns-in-Select c = λ p. rw c.in-Select.is (put_back c.args.state.now c.decod
 
 pub initialize-requires : goal.initialize-requires
 initialize-requires c = rw c.decode-in-Initialize.ensures c.requires.resets
-
-pub put_all-requires : goal.put_all-requires
-put_all-requires c = c.requires.bytes.size

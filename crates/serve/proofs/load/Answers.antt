@@ -6,7 +6,7 @@ use native.Mathlib.Omega.{arith}
 use lib.ListN.{length}
 use borrow.Author.Tests.{eqb-true, not-false}
 use Rattle.seq.proofs.Laws.{and_left, passed}
-use Rattle.numbers.specs.declared.Checked.TheVariants.{Sound}
+use Rattle.std.specs.Prelude.{Ok}
 use Rattle.numbers.proofs.Laws.{faulty}
 use Rattle.form.proofs.FormLaws.{form-listed, fcb-fits}
 use Rattle.copies.specs.Copies.{number_check}
@@ -19,7 +19,7 @@ use Rattle.state.specs.State.{state_at}
 use Rattle.serve.proofs.Put.{put_back, same-arrays, table-leaves, legends-leave, number-leaves}
 use Rattle.serve.proofs.load.Goals as goal
 
-one_byte : (r : List ℕ) → number_check r ≡ Sound → 1 ≤ length r
+one_byte : (r : List ℕ) → number_check r ≡ Ok tt → 1 ≤ length r
 unfolding number_check
 one_byte r e = let h : length r ≡ 1 = eqb-true _ _ (and_left _ _ (not-false _ (passed _ _ faulty e).0)) in omega (arith, h)
 

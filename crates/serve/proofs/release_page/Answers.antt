@@ -1,50 +1,50 @@
 -- Accepted or refused, as the definition has it.
-use mathlib.Core.Path.{◌≡◌, refl, sym, ap, ◌∙◌}
-use mathlib.Core.List.{[]}
-use native.Mathlib.Omega.{arith}
+use Prim.Native.Nat.{ℕ}
+use mathlib.Core.Path.{◌≡◌, refl, ap, ◌∙◌}
+use mathlib.Core.Bool.{true}
+use mathlib.Core.List.{List, []}
+use borrow.Author.Rules.{rules}
+use Rattle.std.specs.Prelude.{Result}
 use Rattle.seq.specs.Words.{first_or}
+use Rattle.numbers.specs.declared.Refusal.{Refusal}
 use Rattle.numbers.specs.declared.Refusal.TheVariants.{Accepted}
-use Rattle.numbers.specs.Numbers.{is_accepted}
-use Rattle.calls.specs.declared.State.{State}
-use Rattle.calls.specs.Core.{stores_of}
+use Rattle.calls.specs.Core.{Stores, stores_of}
 use Rattle.calls.specs.Contents.{core_ok}
-use Rattle.calls.specs.Effects.{refused}
-use Rattle.calls.specs.Calls.{release, release_tests, refusal_of, do_release, perform, Outcome}
+use Rattle.calls.specs.Calls.{release, release_tests, refusal_of, do_release, perform}
 use Rattle.calls.proofs.Refused.{release-keeps}
+use Rattle.refusals.specs.Verdict.{verdict}
 use Rattle.printer.specs.declared.Printer.{Printer}
-use Rattle.state.specs.State.{world_at}
+use Rattle.printer.specs.Worlds.{core_of}
+use Rattle.state.specs.State.{core_at, world_at, printer_at}
+use Rattle.state.specs.Contents.{sound_bytes}
 use Rattle.state.specs.Host.{shown}
 use Rattle.state.proofs.Sound.{sound-good}
-use Rattle.serve.proofs.Put.{put_back, left_alone}
+use Rattle.serve.proofs.Put.{put_back}
 use Rattle.serve.proofs.Good.{judged-good}
-use Rattle.serve.proofs.Steps.{step-accepted, step-refused}
+use Rattle.serve.proofs.Steps.{step-accepted, step-left}
 use Rattle.serve.proofs.release_page.Goals as goal
 
-pub release-requires : goal.release-requires
-release-requires c = let g = judged-good c.requires in rw c.decode-p.ensures (record { resets = record { fixed = g.fixed; legends = g.sizes.legends; tables = g.sizes.tables }; page = g.sizes.page })
-
-pub put_all-requires : goal.put_all-requires
-put_all-requires c = c.requires.bytes.size
-
-pub returns-then-is_accepted : goal.returns-then-is_accepted
-unfolding perform refusal_of
-returns-then-is_accepted c = put_back c.args.state.now c.decode-p.ensures [] (stores_of c.args.page.now c.args.legends.now c.args.tables.now) do_release (c.release.ensures [])
-    c.put_all.ensures.answer c.put_all.ensures.state
-    ∙ ap shown (step-accepted (world_at c.args.state.now (stores_of c.args.page.now c.args.legends.now c.args.tables.now)) release (let it : c.release_refusal-refusal.result ≡ refusal_of (world_at c.args.state.now (stores_of c.args.page.now c.args.legends.now c.args.tables.now)).core release = let m = (stores_of c.args.page.now c.args.legends.now c.args.tables.now) in
-    let e = ap (λ (p : Printer). p.state) c.decode-p.ensures in
-    c.release_refusal-refusal.ensures m (ap (λ (t : State). core_ok (record { state = t; stores = m })) e ∙ sound-good _ _ c.requires.sound)
-    ∙ ap (λ (t : State). first_or Accepted (release_tests (record { state = t; stores = m }))) e in it)
-    (sym c.is_accepted.ensures ∙ c.if-is_accepted.true) refl)
-
-pub returns : goal.returns
+of-call : (s : List ℕ) (m : Stores) {p : Printer} {v : Result Unit Refusal} → p ≡ printer_at s → sound_bytes s m ≡ true
+    → (core_ok (core_of p m) ≡ true → v ≡ verdict (first_or Accepted (release_tests (core_of p m)))) → v ≡ verdict (refusal_of (core_at s m) release)
 unfolding refusal_of
-returns c = let no = sym c.is_accepted.ensures ∙ c.if-is_accepted.false in
-    let x = (let it : c.release_refusal-refusal.result ≡ refusal_of (world_at c.args.state.now (stores_of c.args.page.now c.args.legends.now c.args.tables.now)).core release = let m = (stores_of c.args.page.now c.args.legends.now c.args.tables.now) in
-    let e = ap (λ (p : Printer). p.state) c.decode-p.ensures in
-    c.release_refusal-refusal.ensures m (ap (λ (t : State). core_ok (record { state = t; stores = m })) e ∙ sound-good _ _ c.requires.sound)
-    ∙ ap (λ (t : State). first_or Accepted (release_tests (record { state = t; stores = m }))) e in it) in
-    let o = step-refused (world_at c.args.state.now (stores_of c.args.page.now c.args.legends.now c.args.tables.now)) release x 0 no refl refl in
-    left_alone c.args.state.now c.decode-p.ensures [] (stores_of c.args.page.now c.args.legends.now c.args.tables.now) (λ k. refused k 0 c.release_refusal-refusal.result) (c.refuse-step.ensures (stores_of c.args.page.now c.args.legends.now c.args.tables.now) [])
-    (λ n. omega (arith, c.slice_known-1.given n)) c.requires.bytes.read
-    (ap (λ (z : Outcome). z.world) o ∙ release-keeps (world_at c.args.state.now (stores_of c.args.page.now c.args.legends.now c.args.tables.now)) (ap is_accepted (sym x) ∙ no)) refl
-    ∙ ap shown o
+of-call s m d e found = (rw d at found) (sound-good _ _ e)
+
+pub release-requires : goal.release-requires
+release-requires c =
+    let g = judged-good c.requires in
+    rw c.decode-p.ensures (record { resets = record { fixed = g.fixed; legends = g.sizes.legends; tables = g.sizes.tables }; page = g.sizes.page })
+
+pub returns-in-Ok : goal.returns-in-Ok
+unfolding perform
+returns-in-Ok c =
+    let s = c.args.state.now in
+    let m = stores_of c.args.page.now c.args.legends.now c.args.tables.now in
+    put_back s c.decode-p.ensures [] m do_release (c.release.ensures []) c.put_all.ensures.answer c.put_all.ensures.state
+    ∙ ap shown (step-accepted (world_at s m) release (of-call s m c.decode-p.ensures c.requires.sound (c.release_refusal.ensures m)) c.in-Ok.is refl)
+
+pub returns-in-Err : goal.returns-in-Err
+returns-in-Err c =
+    let s = c.args.state.now in
+    let m = stores_of c.args.page.now c.args.legends.now c.args.tables.now in
+    step-left c.decode-p.ensures m release (of-call s m c.decode-p.ensures c.requires.sound (c.release_refusal.ensures m)) c.in-Err.is refl
+    (c.refuse.ensures m []) (search rules) c.requires.bytes.read (release-keeps (world_at s m))

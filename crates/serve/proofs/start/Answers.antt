@@ -7,7 +7,7 @@ pub pack-requires : goal.pack-requires
 pack-requires c = start-room _ _ c.begin.result c.begin.ensures
 
 pub returns : goal.returns
-returns c = start-with-room _ _ _ c.begin.result c.if-state-ne-STATE_BYTES.false c.begin.ensures c.pack.ensures
+returns c = start-with-room _ _ _ c.begin.result c.in-Some.ensures.cases.long c.begin.ensures c.pack.ensures
 
-pub returns-then-state-ne-STATE_BYTES : goal.returns-then-state-ne-STATE_BYTES
-returns-then-state-ne-STATE_BYTES c = start-without-room _ _ _ (ne_eqb _ _ c.if-state-ne-STATE_BYTES.true) c.unread.ensures
+pub returns-in_default : goal.returns-in_default
+returns-in_default c = start-without-room _ _ _ (ne_eqb _ _ c.in_default.ensures.cases) c.unread.ensures

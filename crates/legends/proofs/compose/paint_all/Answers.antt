@@ -1,40 +1,28 @@
--- Each turn paints one segment; those from `at` on are left. Legends that a printer can have are sound segments.
-use mathlib.Core.Path.{refl, ◌∙◌}
-use Prim.Native.Nat.{◌≤◌, ◌+◌}
+-- Each turn paints one segment, and leaves those behind it. Legends that a printer can have are sound segments.
+use mathlib.Core.Path.{sym, ◌∙◌}
 use native.Mathlib.Omega.{arith}
-use lib.ListN.{length, drop, get_or-eq_default}
-use borrow.Author.Rules.{rules}
-use Rattle.line.specs.Cells.{cells_in}
-use Rattle.legends.specs.Legends.{segment_length}
-use Rattle.legends.proofs.SegmentLaws.{SoundFirst, end-at}
-use Rattle.legends.proofs.ComposeLaws.{left-start, left_here, left_step, left_end}
+use lib.ListN.{get_or-eq_default}
+use borrow.Author.Tests.{eqb-true}
+use Rattle.legends.proofs.ComposeLaws.{left_here, left_step, left_end}
 use Rattle.legends.proofs.compose.paint_all.Goals as goal
 
-pub loop-at-init : goal.loop-at-init
-loop-at-init c = (search rules, (refl, left-start _ _ _ (search rules)))
+pub paint-requires-clause-text_fits : goal.paint-requires-clause-text_fits
+paint-requires-clause-text_fits c = (left_here _ _ _ _ c.if-rest-ne0.true c.loop-rest.invariant).size
 
-pub returns-then-legends-at-eq0 : goal.returns-then-legends-at-eq0
-returns-then-legends-at-eq0 c = left_end _ _ _ _ _ c.if-legends-at-eq0.true c.loop-at.invariant.1.1
+pub paint-requires-clause-head_sound : goal.paint-requires-clause-head_sound
+paint-requires-clause-head_sound c = (left_here _ _ _ _ c.if-rest-ne0.true c.loop-rest.invariant).head
 
-pub paint-requires : goal.paint-requires
-paint-requires c = record { legends_in_bounds = (let it : (c.loop-at.at) + segment_length (drop (c.loop-at.at) (c.args.legends.now)) ≤ length (c.args.legends.now) = end-at (c.args.legends.now) (c.loop-at.at) _ refl (let it : SoundFirst (drop (c.loop-at.at) (c.args.legends.now)) = let l = c.loop-at in left_here (c.args.legends.now) _ (c.loop-at.at) (cells_in l.out) _ c.if-legends-at-eq0.false l.invariant.1.1 in it) in it); legends_value = (let it : SoundFirst (drop (c.loop-at.at) (c.args.legends.now)) = let l = c.loop-at in left_here (c.args.legends.now) _ (c.loop-at.at) (cells_in l.out) _ c.if-legends-at-eq0.false l.invariant.1.1 in it).head; out_len = search rules }
+pub after_first-rest-requires : goal.after_first-rest-requires
+after_first-rest-requires c = (left_here _ _ _ _ c.if-rest-ne0.true c.loop-rest.invariant).size
 
-pub segment_length-at-requires : goal.segment_length-at-requires
-segment_length-at-requires c = omega (arith, (let it : (c.loop-at.at) + segment_length (drop (c.loop-at.at) (c.args.legends.now)) ≤ length (c.args.legends.now) = end-at (c.args.legends.now) (c.loop-at.at) _ refl (let it : SoundFirst (drop (c.loop-at.at) (c.args.legends.now)) = let l = c.loop-at in left_here (c.args.legends.now) _ (c.loop-at.at) (cells_in l.out) _ c.if-legends-at-eq0.false l.invariant.1.1 in it) in it))
+pub loop-rest-preserved : goal.loop-rest-preserved
+loop-rest-preserved c =
+    rw (c.paint.ensures, c.after_first-rest.ensures.rest) (left_step _ _ _ _ c.if-rest-ne0.true c.loop-rest.invariant)
 
-pub overflow_add-at : goal.overflow_add-at
-overflow_add-at c = omega (arith, (let it : (c.loop-at.at) + segment_length (drop (c.loop-at.at) (c.args.legends.now)) ≤ length (c.args.legends.now) = end-at (c.args.legends.now) (c.loop-at.at) _ refl (let it : SoundFirst (drop (c.loop-at.at) (c.args.legends.now)) = let l = c.loop-at in left_here (c.args.legends.now) _ (c.loop-at.at) (cells_in l.out) _ c.if-legends-at-eq0.false l.invariant.1.1 in it) in it), c.segment_length-at.ensures)
+pub returns-else-rest-ne0 : goal.returns-else-rest-ne0
+returns-else-rest-ne0 c = left_end _ _ _ _ c.if-rest-ne0.false c.loop-rest.invariant
 
-pub loop-at-smaller : goal.loop-at-smaller
-loop-at-smaller c = omega (arith, (let it : (c.loop-at.at) + segment_length (drop (c.loop-at.at) (c.args.legends.now)) ≤ length (c.args.legends.now) = end-at (c.args.legends.now) (c.loop-at.at) _ refl (let it : SoundFirst (drop (c.loop-at.at) (c.args.legends.now)) = let l = c.loop-at in left_here (c.args.legends.now) _ (c.loop-at.at) (cells_in l.out) _ c.if-legends-at-eq0.false l.invariant.1.1 in it) in it), c.segment_length-at.ensures)
-
-pub loop-at-preserved : goal.loop-at-preserved
-loop-at-preserved c = let l = c.loop-at in
-    let p = c.paint in
-    let m = c.segment_length-at in
-    let step = left_step (c.args.legends.now) _ l.at (cells_in l.out) _ c.if-legends-at-eq0.false l.invariant.1.1 m.result m.ensures.0 in
-    (omega (arith, (let it : (c.loop-at.at) + segment_length (drop (c.loop-at.at) (c.args.legends.now)) ≤ length (c.args.legends.now) = end-at (c.args.legends.now) (c.loop-at.at) _ refl (let it : SoundFirst (drop (c.loop-at.at) (c.args.legends.now)) = let l = c.loop-at in left_here (c.args.legends.now) _ (c.loop-at.at) (cells_in l.out) _ c.if-legends-at-eq0.false l.invariant.1.1 in it) in it), m.ensures), (p.auto.out ∙ l.invariant.1.0, rw p.ensures step))
-
-pub returns : goal.returns
-returns c = let a = c.args in
-    left_end a.legends.now _ _ _ _ (get_or-eq_default a.legends.now 0 (search rules)) c.loop-at.invariant.1.1
+pub returns-after-loop-rest : goal.returns-after-loop-rest
+returns-after-loop-rest c =
+    let none = eqb-true _ _ (sym c.is_empty.ensures ∙ c.loop-rest-test.false) in
+    left_end _ _ _ _ (get_or-eq_default c.loop-rest.rest.now 0 {n = 0} (omega (arith, none))) c.loop-rest.invariant

@@ -15,5 +15,5 @@ counted ns e = ap (λ (u : Unprintables). u.count) (sym e)
 pub returns-then-self-eq0 : goal.returns-then-self-eq0
 returns-then-self-eq0 c = λ ns ms e h. h ∙ told-after ns ms (counted ns e ∙ c.if-self-eq0.true)
 
-pub returns : goal.returns
-returns c = λ ns ms e h. rw (e, h) (told-both ns ms (λ z. c.if-self-eq0.false (sym (counted ns e) ∙ z)))
+pub returns-else-self-eq0 : goal.returns-else-self-eq0
+returns-else-self-eq0 c = λ ns ms e h. rw (e, h) (told-both ns ms (λ z. c.if-self-eq0.false (sym (counted ns e) ∙ z)))

@@ -14,16 +14,16 @@ use Rattle.line.proofs.marks.any_bad.Goals as goal
 
 pub loop-k-init : goal.loop-k-init
 unfolding bad_word
-loop-k-init c = (search rules, refl)
+loop-k-init c = refl
 
 pub loop-k-preserved : goal.loop-k-preserved
 loop-k-preserved c = let l = c.loop-k in
     let s = c.args.block.now in
-    let more = word_more s l.k l.seen (λ j. omega (arith, c.shared_slice_known-1.given j)) (search rules) l.invariant.1 in
-    (search rules, ap (λ (w : ℕ). bad_word (bit_or l.seen w)) c.word-seen.ensures ∙ more)
+    let more = word_more s l.k l.seen (search rules) (search rules) l.invariant in
+    ap (λ (w : ℕ). bad_word (bit_or l.seen w)) c.word-seen.ensures ∙ more
 
 pub returns : goal.returns
 returns c = let l = c.loop-k in
     let s = c.args.block.now in
     let all : length (cells_in s) ≤ 2 * l.k = omega (arith, length-cells s) in
-    c.is_bad.ensures ∙ l.invariant.1 ∙ any-all bad_mark (2 * l.k) (cells_in s) all
+    c.is_bad.ensures ∙ l.invariant ∙ any-all bad_mark (2 * l.k) (cells_in s) all

@@ -1,11 +1,7 @@
 -- A blank changes nothing; any other code is merged with one cell a turn.
-use Prim.Native.Nat.{◌≤◌, ◌-◌}
 use lib.ListN.{replicate}
 use Rattle.line.proofs.MergeLaws.{Merged}
 use Rattle.line.proofs.merge.merge_fill.Given as goal
 
 abbrev pub invariant-loop-i : goal.invariant-loop-i
-invariant-loop-i l = (l.i ≤ l.count) × Merged l.initial.cells (replicate l.count l.code) l.i l.cells l.clash
-
-abbrev pub decreases-loop-i : goal.decreases-loop-i
-decreases-loop-i l = l.count - l.i
+invariant-loop-i l = Merged l.initial.cells (replicate l.count l.code) l.i l.cells l.clash

@@ -26,5 +26,15 @@ returns c = let a = c.args in
     let long : length x ≡ 2 * n = search rules in
     let whole : length e ≡ 2 * n + (408 - 2 * n) = search rules in
     let fill = replicate (line_width - n) (stand_in ps t) in
-    let back_cells = simp (sub-zero, part_left (2 * n) (408 - 2 * n) e x c.merge_fill-clash.new.cells long whole, c.stand_in-other.ensures) at c.merge_fill-clash.ensures.cells in let back_clash = simp (sub-zero, part_left (2 * n) (408 - 2 * n) e x c.merge_fill-clash.new.cells long whole, c.stand_in-other.ensures) at c.merge_fill-clash.ensures.clash in
-    let same = length-translated ps t r in record { cells = simp sub-zero (parts-put (2 * n) (408 - 2 * n) e x c.merge_fill-clash.new.cells long whole ∙ (λ j. front_cells j ++ back_cells j) ∙ merge-parts n e (translated ps t r) fill same); found = λ j. record { unprintables = ap (λ (u : Found). u.unprintables) front_found j; collision = ((λ i. (front_found i).collision || back_clash i) ∙ clash-parts n e (translated ps t r) fill same) j } }
+    let y = c.merge_fill-clash.new.cells in
+    let left = part_left (2 * n) (408 - 2 * n) e x y long whole in
+    let back_cells = simp (sub-zero, left, c.stand_in-other.ensures) at c.merge_fill-clash.ensures.cells in
+    let back_clash = simp (sub-zero, left, c.stand_in-other.ensures) at c.merge_fill-clash.ensures.clash in
+    let same = length-translated ps t r in
+    let parts = parts-put (2 * n) (408 - 2 * n) e x y long whole in
+    let told = ap (λ (u : Found). u.unprintables) front_found in
+    let clash = (λ i. (front_found i).collision || back_clash i) ∙ clash-parts n e (translated ps t r) fill same in
+    record {
+      cells = simp sub-zero (parts ∙ (λ j. front_cells j ++ back_cells j) ∙ merge-parts n e (translated ps t r) fill same);
+      found = λ j. record { unprintables = told j; collision = clash j };
+    }

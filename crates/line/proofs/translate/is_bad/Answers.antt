@@ -9,6 +9,6 @@ pub returns-then-fitted : goal.returns-then-fitted
 returns-then-fitted c = let a = c.args in
     fitted-is a.pitches a.code (search rules) (search rules) (sym c.fitted.ensures ∙ c.if-fitted.true)
 
-pub returns : goal.returns
+pub returns-else-fitted : goal.returns-else-fitted
 unfolding unprintable
-returns c = rw c.wide-module.ensures.0
+returns-else-fitted c = rw c.from.ensures

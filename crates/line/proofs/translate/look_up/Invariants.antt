@@ -1,12 +1,10 @@
--- The cells behind `at` are codes of the record, and the next block adds its own.
-use mathlib.Core.Path.{◌≡◌}
-use Prim.Native.Nat.{◌≤◌, ◌-◌}
-use lib.ListN.{length, take}
-use Rattle.line.specs.Codes.{codes}
+-- After so many turns of 12 bytes, their codes are the record's, and the next turn adds its own.
+use Rattle.std.proofs.Common.{◌*◌}
+use Rattle.line.proofs.SpacedLaws.{Laid, Seen}
 use Rattle.line.proofs.translate.look_up.Given as goal
 
-abbrev pub invariant-loop-at : goal.invariant-loop-at
-invariant-loop-at l = (l.at ≤ l.n) × ((l.n ≡ length l.sent) × ((length l.cells ≡ length l.initial.cells) × (take l.at l.cells ≡ codes l.table (take l.at l.sent))))
-
-abbrev pub decreases-loop-at : goal.decreases-loop-at
-decreases-loop-at l = l.n - l.at
+abbrev pub invariant-loop-turn : goal.invariant-loop-turn
+invariant-loop-turn g l = record {
+  seen : Seen l.table l.sent (12 * l.turn) l.seen;
+  cells : Laid g.row.STRIDE l.table l.sent (12 * l.turn) l.initial.cells l.cells;
+}

@@ -14,7 +14,6 @@ use Rattle.legends.proofs.ComposeLaws.{length-copy_from}
 use Rattle.calls.specs.Core.{P}
 use Rattle.calls.specs.Calls.{copy_at, do_compose}
 use Rattle.calls.proofs.Good.{form-lines}
-use borrow.Author.Rules.{rules}
 use Rattle.printer.proofs.Printer.compose.Goals as goal
 
 length-composed : (page legends : List ℕ) (p number : ℕ) → line_bytes * p ≤ length page → length (composed page legends p number) ≡ line_bytes * p
@@ -22,18 +21,21 @@ unfolding composed
 length-composed page legends p number h =
     let cells = cells_in (take (line_bytes * p) page) in
     length-stored (copy_from _ number 0 cells)
-    ∙ omega (arith, length-copy_from (map segment_of (stored_segments legends)) number 0 cells, length-cells (take (line_bytes * p) page), length-take-le (line_bytes * p) page h)
+    ∙ omega (
+      arith,
+      length-copy_from (map segment_of (stored_segments legends)) number 0 cells,
+      length-cells (take (line_bytes * p) page),
+      length-take-le (line_bytes * p) page h,
+    )
 
 pub returns : goal.returns
 unfolding do_compose copy_at copy_number
 returns c = λ t. let k = c.args.self.state in let l = form-lines k c.args.form c.requires.fit.layout in
     let fits : line_bytes * P k ≤ length c.args.page.now = omega (arith, l, c.requires.fit.few, c.requires.page) in rw (
+      c.only.ensures,
       c.compose.ensures,
       c.copy_number-number.ensures,
       c.mark_of-mark.ensures,
       l,
       length-composed c.args.page.now c.args.legends.now (P k) _ fits,
     )
-
-pub compose-requires : goal.compose-requires
-compose-requires c = record { legends_value = search rules; lines_le_page_lines = search rules; lines_in_bounds = search rules; lines_in_bounds_2 = search rules }

@@ -5,10 +5,10 @@ use Rattle.line.specs.Line.{no_causes}
 use Rattle.calls.specs.Effects.{done, completing, do_control}
 use Rattle.printer.proofs.Printer.initialize.Goals as goal
 
-pub returns : goal.returns
-unfolding do_control completing done still no_causes
-returns c = λ p b. rw (sym c.is_started.ensures ∙ c.if-is_started.false, ← c.reset-fresh.ensures.core p) (c.stand.ensures _ b)
-
 pub returns-then-is_started : goal.returns-then-is_started
 unfolding do_control completing
 returns-then-is_started c = λ p b. rw (sym c.is_started.ensures ∙ c.if-is_started.true) (c.complete.ensures _ b)
+
+pub returns-else-is_started : goal.returns-else-is_started
+unfolding do_control completing done still no_causes
+returns-else-is_started c = λ p b. rw (sym c.is_started.ensures ∙ c.if-is_started.false, ← c.reset.ensures.core p) (c.stand.ensures _ b)

@@ -7,4 +7,4 @@ use Rattle.printer.proofs.Printer.load_fcb.Goals as goal
 
 pub returns : goal.returns
 unfolding do_load loaded load_causes at_line1 no_causes done still forms_of
-returns c = λ m b. rw (← c.lay_padded.ensures) (c.stand.ensures m b)
+returns c = λ m b. rw (← c.padded.ensures) (c.stand.ensures m b)

@@ -1,4 +1,5 @@
 -- The reference stored, then nothing moved.
+use borrow.Author.Rules.{rules}
 use Rattle.line.specs.Line.{no_causes}
 use Rattle.copies.specs.Copies.{with_reference}
 use Rattle.calls.specs.Effects.{loaded, load_causes, do_load}
@@ -6,4 +7,4 @@ use Rattle.printer.proofs.Printer.load_number.Goals as goal
 
 pub returns : goal.returns
 unfolding do_load loaded load_causes no_causes with_reference
-returns c = λ m b. c.stand.ensures m b
+returns c = search rules

@@ -5,4 +5,4 @@ use Rattle.printer.proofs.Printer.sense_io.Goals as goal
 
 pub returns : goal.returns
 unfolding do_control sense_bytes
-returns c = λ m. rw (c.copy_all.ensures, c.sense_bytes-bytes.ensures) (c.no_op.ensures m _)
+returns c = λ m. rw (c.copy_from_slice.ensures.after, c.sense_bytes.ensures) (c.no_op.ensures m _)

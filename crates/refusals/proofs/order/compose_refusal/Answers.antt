@@ -1,38 +1,21 @@
--- The tests in their order: those that are passed are false, and the first that holds gives its number.
-use mathlib.Core.Path.{◌≡◌, sym, ap}
-use mathlib.Core.Bool.{not}
-use lib.ListN.{length}
-use borrow.Author.Tests.{lt-ltb, le-ltb}
-use Rattle.seq.proofs.Laws.{clear, hit, pass, first-only}
-use Rattle.numbers.specs.declared.Refusal.TheVariants.{BadIndex, TooShort, NoPage, BadStore}
-use Rattle.copies.specs.Copies.{copy_count, pair_size}
-use Rattle.calls.proofs.Good.{form-lines}
-use borrow.Author.Rules.{rules}
+-- How many copies there are, and how many lines.
+use native.Mathlib.Omega.{arith}
+use Rattle.std.proofs.lemmas.Grind.{common_steps}
+use Rattle.seq.specs.Words.{when, first_or}
+use Rattle.numbers.specs.Numbers.{row_of, is_accepted}
+use Rattle.form.specs.Form.{layout_of}
+use Rattle.copies.specs.Copies.{copy_count}
+use Rattle.calls.specs.Core.{lines_now}
 use Rattle.refusals.proofs.order.compose_refusal.Goals as goal
 
-pub returns-then-not-state : goal.returns-then-not-state
-unfolding copy_count
-returns-then-not-state c m f ok = sym (first-only (pass BadStore (ap not ok) (hit c.if-not-state.true)))
+pub returns-then-not-contains : goal.returns-then-not-contains
+unfolding is_accepted row_of first_or when copy_count
+returns-then-not-contains c = grind (arith, common_steps)
 
-pub slice_bounds-copy_count-end : goal.slice_bounds-copy_count-end
-unfolding copy_count
-slice_bounds-copy_count-end c = sym (let it : length c.args.state.copies.pairs ≡ pair_size = search rules in it)
-
-pub copy_count-last-requires : goal.copy_count-last-requires
-unfolding copy_count
-copy_count-last-requires c = (let it : length c.args.state.copies.pairs ≡ pair_size = search rules in it)
-
-pub returns-then-copy-last : goal.returns-then-copy-last
-unfolding copy_count
-returns-then-copy-last c m f ok = sym (first-only (pass BadStore (ap not ok) (pass NoPage c.if-not-state.false
-    (hit (rw (← c.copy_count-last.ensures) c.if-copy-last.true)))))
-
-pub returns-then-out-form : goal.returns-then-out-form
-unfolding copy_count
-returns-then-out-form c m f ok = sym (first-only ((pass BadStore (ap not ok)
-    (pass NoPage c.if-not-state.false (pass BadIndex (rw (← c.copy_count-last.ensures) c.if-copy-last.false) (hit (rw (← form-lines c.args.state _ f) (lt-ltb _ _ c.if-out-form.true))))))))
+pub returns-then-out-from : goal.returns-then-out-from
+unfolding is_accepted row_of first_or when copy_count lines_now layout_of
+returns-then-out-from c = grind (arith, common_steps)
 
 pub returns : goal.returns
-unfolding copy_count
-returns c m f ok = sym (first-only ((pass BadStore (ap not ok)
-    (pass NoPage c.if-not-state.false (pass BadIndex (rw (← c.copy_count-last.ensures) c.if-copy-last.false) (pass TooShort (rw (← form-lines c.args.state _ f) (le-ltb _ _ c.if-out-form.false)) clear))))))
+unfolding is_accepted row_of first_or when copy_count lines_now layout_of
+returns c = grind (arith, common_steps)

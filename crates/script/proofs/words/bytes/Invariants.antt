@@ -1,6 +1,10 @@
--- Each word begins after the one before it.
-use Rattle.std.proofs.Common.{length, ◌-◌}
+-- What has been put fits the room.
+use Rattle.std.proofs.Common.{◌≤◌, length}
 use Rattle.script.proofs.words.bytes.Given as goal
 
-abbrev pub decreases-loop-at : goal.decreases-loop-at
-decreases-loop-at l = length l.line - l.at
+abbrev pub invariant-loop-word : goal.invariant-loop-word
+invariant-loop-word l = record {
+  can_next : (goal.iterator-loop-word).can_next l.word-iterator;
+  is_finite : (goal.iterator-loop-word).is_finite l.word-iterator;
+  fits : l.end ≤ length l.room;
+}

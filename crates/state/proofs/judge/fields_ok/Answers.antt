@@ -10,14 +10,14 @@ use Rattle.state.specs.State.{byte_at, flag_at, state_at}
 use Rattle.state.specs.Contents.{fields_ok}
 use Rattle.state.proofs.judge.fields_ok.Goals as goal
 
-pub returns-then-not-slots-sheet : goal.returns-then-not-slots-sheet
+pub returns-else-slots-sheet : goal.returns-else-slots-sheet
 unfolding fields_ok slots_in_range every state_at
-returns-then-not-slots-sheet c = let s = c.args.s.now in
-    let h : ((flag_at s loaded_at && leb (byte_at s selected_at) 3) && (c.sheet_ok-sheet.result && c.counters_ok-counters.result)) ≡ false = c.if-not-slots-sheet.true in
+returns-else-slots-sheet c = let s = c.args.s.now in
+    let h : ((flag_at s loaded_at && leb (byte_at s selected_at) 3) && (c.sheet_ok-sheet.result && c.counters_ok-counters.result)) ≡ false = c.if-slots-sheet.false in
     rw (and-true, ← and_assoc (due_ok (state_at s).sheet), ← c.sheet_ok-sheet.ensures, ← c.counters_ok-counters.ensures, h, and-false)
 
-pub returns : goal.returns
+pub returns-then-slots-sheet : goal.returns-then-slots-sheet
 unfolding fields_ok slots_in_range every state_at
-returns c = let s = c.args.s.now in
-    let h : ((flag_at s loaded_at && leb (byte_at s selected_at) 3) && (c.sheet_ok-sheet.result && c.counters_ok-counters.result)) ≡ true = c.if-not-slots-sheet.false in
+returns-then-slots-sheet c = let s = c.args.s.now in
+    let h : ((flag_at s loaded_at && leb (byte_at s selected_at) 3) && (c.sheet_ok-sheet.result && c.counters_ok-counters.result)) ≡ true = c.if-slots-sheet.true in
     rw (and-true, ← and_assoc (due_ok (state_at s).sheet), ← c.sheet_ok-sheet.ensures, ← c.counters_ok-counters.ensures, h, and-true) c.fixed_ok.ensures

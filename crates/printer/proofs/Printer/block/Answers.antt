@@ -1,8 +1,0 @@
--- The switch stored, then nothing moved.
-use Rattle.line.specs.Line.{no_causes}
-use Rattle.calls.specs.Effects.{do_control}
-use Rattle.printer.proofs.Printer.block.Goals as goal
-
-pub returns : goal.returns
-unfolding do_control no_causes
-returns c = λ m b. c.stand.ensures m b
