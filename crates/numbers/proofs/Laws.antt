@@ -11,7 +11,7 @@ use borrow.Author.Tests.{eq-eqb}
 use Rattle.seq.specs.Words.{first_or, when, listed, from}
 use Rattle.std.specs.Prelude.{Ok, Err}
 use Rattle.numbers.specs.Numbers.{Checked}
-use Rattle.seq.proofs.Laws.{First, here, later}
+use Rattle.seq.proofs.Laws.{First, later}
 use Rattle.numbers.specs.declared.Cause.{Cause}
 use Rattle.numbers.specs.declared.Cause.TheVariants.{FcbChannel, FcbSpacing, FcbSum, FcbEdge, TableShort, SequencePairs, SequenceCounts, NumberRecord, SegmentEnds, SegmentFields}
 use Rattle.numbers.specs.declared.Refusal.{Refusal}
@@ -159,11 +159,7 @@ unfolding first_or when
 goes_on x true ts n e = absurd (false≢true (sym n ∙ eq-eqb _ _ (ap number_of e)))
 goes_on x false ts n e = (refl, e)
 
--- a load's check as an entry of an order: it finds a fault, or nothing
-pub check-hit : {d : Checked} {c : Cause} {ts : List (Option Refusal)} → d ≡ Err c → First Accepted (checked d ∷ ts) (LoadCheck c)
-unfolding checked
-check-hit e = rw e here
-
+-- a load's check that finds nothing, as an entry of an order
 pub check-pass : {d : Checked} {x : Refusal} {ts : List (Option Refusal)} → d ≡ Ok tt → First Accepted ts x → First Accepted (checked d ∷ ts) x
 unfolding checked
 check-pass e f = rw e (later f)

@@ -47,7 +47,7 @@ impl Printer {
         }
     }
 
-    // The page is counted, and empty again; a reset that was due is done. Both ways meet, so that one FCB is on the stack (T-06).
+    // The page is counted, and empty again; a reset that was due is done. Both ways meet (T-06).
     pub fn release(mut self, page: &mut [u8], legends: &mut [u8], tables: &mut [u8]) -> Step
         requires { Releases self.state page.old legends.old tables.old }
         ensures { Did self (stores_of page.old legends.old tables.old) result

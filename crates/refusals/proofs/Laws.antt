@@ -4,16 +4,9 @@ use mathlib.Core.Bool.{Bool, true, false, cond}
 use Rattle.std.specs.Prelude.{Result, Ok, Err}
 use Rattle.numbers.specs.declared.Refusal.{Refusal}
 use Rattle.numbers.specs.declared.Refusal.TheVariants.{Accepted}
-use Rattle.numbers.specs.Numbers.{row_of, is_accepted}
+use Rattle.numbers.specs.Numbers.{is_accepted}
 use Rattle.numbers.proofs.Laws.{accepted-is}
 use Rattle.refusals.specs.Verdict.{verdict}
-
-pub verdict-accepted : verdict Accepted ≡ Ok tt
-unfolding is_accepted row_of
-verdict-accepted = refl
-
-pub verdict-refused : (x : Refusal) → is_accepted x ≡ false → verdict x ≡ Err x
-verdict-refused x e = rw e
 
 -- it is `Ok` for Accepted alone, and `Err` for the others, with the refusal itself
 only-ok : (b : Bool) (x : Refusal) → ◌≡◌ {A = Result Unit Refusal} (cond b (Ok tt) (Err x)) (Ok tt) → b ≡ true
