@@ -87,7 +87,7 @@ module _ (l : List ℕ) (n r : ℕ) (h : length l ≡ pair_size) where
   abbrev ok : Bool
   ok = copies_in_range (record { pairs = l; count = n; reference = r }) && is_sound (sequence_check (take n l))
 
-  ok-without-pairs : whole_pairs n ≡ false → ok ≡ false
+  pub ok-without-pairs : whole_pairs n ≡ false → ok ≡ false
   unfolding copies_in_range every sequence_check first_or when
   ok-without-pairs w = go (leb n pair_size) refl
     where
@@ -95,7 +95,7 @@ module _ (l : List ℕ) (n r : ℕ) (h : length l ≡ pair_size) where
       go true e = simp (length-take-le n l (omega (arith, leb-true n pair_size e)), w, and-false)
       go false e = rw e refl
 
-  ok-with-pairs : whole_pairs n ≡ true → ok ≡ (leb 1 r && (not (any bad_pair (pairs_of (take n l)) || not (zero_from n l)) && leb (copies_of l) most_copies))
+  pub ok-with-pairs : whole_pairs n ≡ true → ok ≡ (leb 1 r && (not (any bad_pair (pairs_of (take n l)) || not (zero_from n l)) && leb (copies_of l) most_copies))
   unfolding copies_in_range every sequence_check first_or when
   ok-with-pairs w =
       rw (le-leb n pair_size (pairs-fit n w), length-take-le n l (omega (arith, pairs-fit n w)), w) (go (zero_from n l) refl)

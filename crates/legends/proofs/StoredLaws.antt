@@ -10,7 +10,7 @@ use lib.Dec.{eqb, lit<}
 use borrow.Author.Tests.{eqb-true, ne_eqb}
 use Rattle.seq.specs.Words.{all, first_or, every, zeros, padded, zero_from}
 use Rattle.std.specs.Prelude.{Ok}
-use Rattle.seq.proofs.Laws.{and_left, passed, take_rest}
+use Rattle.seq.proofs.Laws.{and_left, passed}
 use Rattle.numbers.specs.Sizes.{legend_size}
 use Rattle.numbers.specs.Numbers.{is_sound}
 use Rattle.numbers.proofs.Laws.{faulty}
@@ -158,10 +158,7 @@ module _ {ps t sent out : List ℕ} {bad : Unprintables} {at : ℕ} (so_far : St
   pub next-head : at + head_size ≤ length sent
   next-head = omega (arith, next-first.size, length-drop at sent)
 
-  module _ {m : ℕ} (long : m ≡ segment_length (take (length sent - at) left)) where
-    e : m ≡ segment_length left
-    e = long ∙ ap segment_length (take_rest at sent)
-
+  module _ {m : ℕ} (e : m ≡ segment_length left) where
     abbrev first : List ℕ
     first = take m left
 

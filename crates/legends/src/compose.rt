@@ -12,7 +12,7 @@ pub fn text(legends: &[u8]) -> &[u8]
     requires { segment_length legends.now ≤ length legends.now }
     ensures { result.now ≡ (segment_of legends.now).text }
 {
-    &legends[HEAD_BYTES..segment_length(legends)]
+    &legends[HEAD_BYTES..segment_length(legends, 0)]
 }
 
 // Paints a text into the rows from `first` on and before `end`, in each from a place on, all counted from 0: what a segment of copy 0 alone shows.

@@ -66,12 +66,13 @@ fn bad_head(s: &[u8]) -> bool
     zero | !((2 <= end) & (end <= LINE_END))
 }
 
-// How many bytes the segment at the front of s has.
-fn segment_length(s: &[u8]) -> usize
-    requires { head_size ≤ length s.now }
-    ensures { result ≡ segment_length s.now }
+// How many bytes the segment at a place of s has.
+pub fn segment_length(s: &[u8], at: usize) -> usize
+    requires { at + head_size ≤ length s.now }
+    ensures value { result ≡ segment_length (drop at s.now) }
+    ensures most { result ≤ head_size + 255 }
 {
-    HEAD_BYTES + usize::from(Head::read(s).positions)
+    HEAD_BYTES + usize::from(Head::read(&s[at..]).positions)
 }
 
 // What follows the segment at the front of s.
@@ -80,7 +81,7 @@ fn after_first(s: &[u8]) -> &[u8]
     ensures rest { result.now ≡ drop (segment_length s.now) s.now }
     ensures shorter { length result.now < length s.now }
 {
-    &s[segment_length(s)..]
+    &s[segment_length(s, 0)..]
 }
 
 // What the tests of the segment at the front of s find.
@@ -93,7 +94,7 @@ fn segment_check(s: &[u8]) -> Result<(), Cause>
     if bad_head(s) {
         return Err(Cause::SegmentFields);
     }
-    if s.len() < segment_length(s) {
+    if s.len() < segment_length(s, 0) {
         return Err(Cause::SegmentEnds);
     }
     Ok(())
@@ -101,6 +102,7 @@ fn segment_check(s: &[u8]) -> Result<(), Cause>
 
 // What follows the sound segments at the front of s. A segment that begins with 00 is not sound, so stored legends end there too.
 fn after_sound(s: &[u8]) -> &[u8]
+    ensures bound { length result.now ≤ length s.now }
     ensures stops { is_sound (first_or (Ok tt) (segment_tests result.now)) ≡ false }
     ensures checked { first_or (Ok tt) (flatten (map segment_tests (segments s.now)))
         ≡ first_or (Ok tt) (flatten (map segment_tests (segments result.now))) }
@@ -202,7 +204,7 @@ pub fn store_legends(
     let mut found = Unprintables::NONE;
     let mut at = 0;
     while at < sent.len() {
-        let end = at + segment_length(&sent[at..]);
+        let end = at + segment_length(sent, at);
         found = store_segment(&mut legends[at..end], &sent[at..end], pitches, table, found);
         at = end;
     }

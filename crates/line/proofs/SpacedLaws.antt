@@ -51,27 +51,27 @@ module _ (n : ℕ) (some : 1 ≤ n) where
       let e : length xs + k - length xs ≡ k = omega arith in
       set-append_right xs ys (length xs) (length xs + k) v refl (omega arith) ∙ ap (λ (m : ℕ). xs ++ set ys m v) e
 
-  spaced-set : (i v : ℕ) (cs : List ℕ) → set (spaced n cs) (n * i) v ≡ spaced n (set cs i v)
+  pub spaced-set : (i v : ℕ) (cs : List ℕ) → set (spaced n cs) (n * i) v ≡ spaced n (set cs i v)
   spaced-set i v [] = refl
   spaced-set zero v (c ∷ cs) = rw (mul-zero n) refl
   spaced-set (suc i) v (c ∷ cs) =
       ap (λ (m : ℕ). set (head c ++ spaced n cs) m v) (next c i) ∙ set-past (head c) (spaced n cs) (n * i) v
       ∙ ap (λ (l : List ℕ). head c ++ l) (spaced-set i v cs)
 
-  spaced-take : (k : ℕ) (cs : List ℕ) → take (n * k) (spaced n cs) ≡ spaced n (take k cs)
+  pub spaced-take : (k : ℕ) (cs : List ℕ) → take (n * k) (spaced n cs) ≡ spaced n (take k cs)
   spaced-take zero cs = rw (mul-zero n) refl
   spaced-take (suc k) [] = take_all (n * suc k) [] (omega arith)
   spaced-take (suc k) (c ∷ cs) =
       ap (λ (m : ℕ). take m (head c ++ spaced n cs)) (next c k) ∙ take-append-add (head c) (spaced n cs) (n * k)
       ∙ ap (λ (l : List ℕ). head c ++ l) (spaced-take k cs)
 
-  spaced-drop : (k : ℕ) (cs : List ℕ) → drop (n * k) (spaced n cs) ≡ spaced n (drop k cs)
+  pub spaced-drop : (k : ℕ) (cs : List ℕ) → drop (n * k) (spaced n cs) ≡ spaced n (drop k cs)
   spaced-drop zero cs = rw (mul-zero n) refl
   spaced-drop (suc k) [] = drop_of_length-le [] {i = n * suc k} (omega arith)
   spaced-drop (suc k) (c ∷ cs) =
       ap (λ (m : ℕ). drop m (head c ++ spaced n cs)) (next c k) ∙ drop-append-add (head c) (spaced n cs) (n * k) ∙ spaced-drop k cs
 
-  spaced-append : (xs ys : List ℕ) → spaced n (xs ++ ys) ≡ spaced n xs ++ spaced n ys
+  pub spaced-append : (xs ys : List ℕ) → spaced n (xs ++ ys) ≡ spaced n xs ++ spaced n ys
   spaced-append [] ys = refl
   spaced-append (x ∷ xs) ys = ap (λ (l : List ℕ). head x ++ l) (spaced-append xs ys) ∙ sym (append_assoc (head x) (spaced n xs) (spaced n ys))
 

@@ -31,7 +31,7 @@ told-both [] ms h = absurd (h refl)
 told-both (n ∷ ns) ms h = rw length-append refl
 
 -- one more position behind others
-told-one : (ns : List ℕ) (m : ℕ) → told (ns ++ (m ∷ [])) ≡ record { first = cond (eqb (length ns) 0) m (get_or ns 0 0); count = length ns + 1 }
+pub told-one : (ns : List ℕ) (m : ℕ) → told (ns ++ (m ∷ [])) ≡ record { first = cond (eqb (length ns) 0) m (get_or ns 0 0); count = length ns + 1 }
 told-one [] m = refl
 told-one (n ∷ ns) m = rw (ne_eqb (suc (length ns)) 0 (λ z. omega (arith, z)), length-append) refl
 

@@ -76,16 +76,9 @@ impl Unprintables {
         ensures told { (ns : List ℕ) → self ≡ told ns → result ≡ told (ns ++ ((1 + i) ∷ [])) }
         ensures count { result.count ≡ self.count + 1 }
     {
-        if self.count == 0 {
-            Unprintables {
-                first: (i + 1) as u16,
-                count: 1,
-            }
-        } else {
-            Unprintables {
-                count: self.count + 1,
-                ..self
-            }
+        Unprintables {
+            first: translate::first_of(self.first, self.count, true, i),
+            count: self.count + 1,
         }
     }
 }

@@ -263,6 +263,8 @@ fn keep_count(which: Tally, state: &mut Bytes) -> Answer
     }
 }
 
+// In each of its five callers: as a function of its own it adds a frame to the stack of four.
+#[inline(always)]
 pub fn tally(which: Tally, state: &mut [u8], page: &[u8], legends: &[u8], tables: &[u8]) -> u64
     ensures { let m = stores_of page.now legends.now tables.now in
         called result [] state.new m ≡ call_bytes state.old m (tally which) }

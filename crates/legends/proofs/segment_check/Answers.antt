@@ -15,11 +15,11 @@ returns-then-bad_head c = simp (le-ltb _ _ c.if-s-lt-HEAD_BYTES.false, sym c.bad
 pub returns-then-s-segment_length : goal.returns-then-s-segment_length
 unfolding first_or when
 returns-then-s-segment_length c =
-    let short = rw c.segment_length.ensures at c.if-s-segment_length.true in
+    let short = rw c.segment_length.ensures.value at c.if-s-segment_length.true in
     simp (le-ltb _ _ c.if-s-lt-HEAD_BYTES.false, sym c.bad_head.ensures ∙ c.if-bad_head.false, lt-ltb _ _ short)
 
 pub returns : goal.returns
 unfolding first_or when
 returns c =
-    let whole = rw c.segment_length.ensures at c.if-s-segment_length.false in
+    let whole = rw c.segment_length.ensures.value at c.if-s-segment_length.false in
     simp (le-ltb _ _ c.if-s-lt-HEAD_BYTES.false, sym c.bad_head.ensures ∙ c.if-bad_head.false, le-ltb _ _ whole)

@@ -12,23 +12,23 @@ pub loop-at-init : goal.loop-at-init
 loop-at-init c = storing-start _ _ _ _ c.requires.sent_fits c.requires.legends_len c.requires.sent_sound
 
 pub segment_length-requires : goal.segment_length-requires
-segment_length-requires c = rw take_rest (omega (arith, next-head c.loop-at.invariant c.loop-at-test.true, length-drop c.loop-at.at c.args.sent.now))
+segment_length-requires c = next-head c.loop-at.invariant c.loop-at-test.true
 
 pub overflow_add-end : goal.overflow_add-end
-overflow_add-end c = omega (arith, next c.loop-at.invariant c.loop-at-test.true c.segment_length.ensures)
+overflow_add-end c = omega (arith, next c.loop-at.invariant c.loop-at-test.true c.segment_length.ensures.value)
 
 pub slice_bounds-store_segment-end : goal.slice_bounds-store_segment-end
-slice_bounds-store_segment-end c = omega (arith, next c.loop-at.invariant c.loop-at-test.true c.segment_length.ensures, c.loop-at.invariant)
+slice_bounds-store_segment-end c = omega (arith, next c.loop-at.invariant c.loop-at-test.true c.segment_length.ensures.value, c.loop-at.invariant)
 
 pub slice_bounds-store_segment-end-in-loop-at : goal.slice_bounds-store_segment-end-in-loop-at
-slice_bounds-store_segment-end-in-loop-at c = omega (arith, next c.loop-at.invariant c.loop-at-test.true c.segment_length.ensures)
+slice_bounds-store_segment-end-in-loop-at c = omega (arith, next c.loop-at.invariant c.loop-at-test.true c.segment_length.ensures.value)
 
 pub loop-at-preserved : goal.loop-at-preserved
 loop-at-preserved c =
     let l = c.loop-at in
     let stored = simp add-sub_cancel_left at c.store_segment-found.ensures in
     simp add-sub_cancel_left
-    (storing-step l.invariant c.loop-at-test.true c.segment_length.ensures _ _ stored.to (stored.found l.invariant.places l.invariant.tells))
+    (storing-step l.invariant c.loop-at-test.true c.segment_length.ensures.value _ _ stored.to (stored.found l.invariant.places l.invariant.tells))
 
 pub returns-clause-legends : goal.returns-clause-legends
 returns-clause-legends c =

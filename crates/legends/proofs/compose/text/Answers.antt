@@ -5,4 +5,4 @@ use Rattle.legends.proofs.compose.text.Goals as goal
 
 pub returns : goal.returns
 unfolding segment_of
-returns c = simp (c.segment_length.ensures, add-sub_cancel_left)
+returns c = simp (c.segment_length.ensures.value, add-sub_cancel_left)
